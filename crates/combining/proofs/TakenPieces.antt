@@ -17,23 +17,23 @@ use Rattle.sequential.specs.declared.object.Sequential.{Ghosts}
 module _ {C R : Type 0} where
   -- A session that isn't the combiner is none afterwards, has begun no walk, and knows nothing of others' pieces.
   same_rest : (t : TicketView C R) (f : List (Entry C R)) (n : ℕ) (m : List ℕ) (q : List Piece) → t.has_object ≡ false → t.route ≡ [] → t.taken ≡ []
-      → record t { front = f; put_backs = n; entered = m; pieces = q; has_object = false; route = []; taken = []; looks = true } ≡ record t { front = f; put_backs = n; entered = m; pieces = q; looks = true }
+      → record t { front = f; put_backs = n; entered = m; pieces = q; has_object = false; route = []; taken = [] } ≡ record t { front = f; put_backs = n; entered = m; pieces = q }
   same_rest t f n m q lacked no_walk untaken =
-      ap (λ (b : Bool). record t { front = f; put_backs = n; entered = m; pieces = q; has_object = b; route = []; taken = []; looks = true }) (sym lacked)
-      ∙ (ap (λ (r : List ℕ). record t { front = f; put_backs = n; entered = m; pieces = q; route = r; taken = []; looks = true }) (sym no_walk)
-      ∙ ap (λ (ps : List Piece). record t { front = f; put_backs = n; entered = m; pieces = q; taken = ps; looks = true }) (sym untaken))
+      ap (λ (b : Bool). record t { front = f; put_backs = n; entered = m; pieces = q; has_object = b; route = []; taken = [] }) (sym lacked)
+      ∙ (ap (λ (r : List ℕ). record t { front = f; put_backs = n; entered = m; pieces = q; route = r; taken = [] }) (sym no_walk)
+      ∙ ap (λ (ps : List Piece). record t { front = f; put_backs = n; entered = m; pieces = q; taken = ps }) (sym untaken))
 
   -- The session noted one piece meanwhile: it knows the history, and the piece is its own.
   pub noted_one : (t u w : TicketView C R) (h : List (Entry C R)) (all after : List Piece) (p : Piece) → u ≡ record t { front = h; has_object = true; taken = all }
-      → w ≡ record u { has_object = false; route = []; pieces = u.pieces ++ added u.taken after; taken = []; looks = true } → t.has_object ≡ false → t.route ≡ [] → t.taken ≡ []
-      → after ≡ all ++ p ∷ [] → w ≡ record t { front = w.front; pieces = t.pieces ++ p ∷ []; looks = true }
+      → w ≡ record u { has_object = false; route = []; pieces = u.pieces ++ added u.taken after; taken = [] } → t.has_object ≡ false → t.route ≡ [] → t.taken ≡ []
+      → after ≡ all ++ p ∷ [] → w ≡ record t { front = w.front; pieces = t.pieces ++ p ∷ [] }
   noted_one t u w h all after p seized released lacked no_walk untaken noted =
-      let whole : w ≡ record t { front = h; has_object = false; route = []; pieces = t.pieces ++ added all after; taken = []; looks = true }
-      = released ∙ ap (λ (x : TicketView C R). record x { has_object = false; route = []; pieces = x.pieces ++ added x.taken after; taken = []; looks = true }) seized in
+      let whole : w ≡ record t { front = h; has_object = false; route = []; pieces = t.pieces ++ added all after; taken = [] }
+      = released ∙ ap (λ (x : TicketView C R). record x { has_object = false; route = []; pieces = x.pieces ++ added x.taken after; taken = [] }) seized in
       let one : added all after ≡ p ∷ [] = ap (added all) noted ∙ drop-append_seam all (p ∷ []) in
       let front : w.front ≡ h = ap (λ (x : TicketView C R). x.front) whole in
-      whole ∙ (ap (λ (ps : List Piece). record t { front = h; has_object = false; route = []; pieces = t.pieces ++ ps; taken = []; looks = true }) one
-      ∙ (same_rest t h t.put_backs t.entered (t.pieces ++ p ∷ []) lacked no_walk untaken ∙ ap (λ (f : List (Entry C R)). record t { front = f; pieces = t.pieces ++ p ∷ []; looks = true }) (sym front)))
+      whole ∙ (ap (λ (ps : List Piece). record t { front = h; has_object = false; route = []; pieces = t.pieces ++ ps; taken = [] }) one
+      ∙ (same_rest t h t.put_backs t.entered (t.pieces ++ p ∷ []) lacked no_walk untaken ∙ ap (λ (f : List (Entry C R)). record t { front = f; pieces = t.pieces ++ p ∷ [] }) (sym front)))
 
   -- The session took the object and made a pass, and noted no piece.
   pub made : (t u v : TicketView C R) (h : List (Entry C R)) (all after : List Piece) → u ≡ record t { front = h; has_object = true; taken = all }
@@ -44,38 +44,38 @@ module _ {C R : Type 0} where
       ∙ ap (λ (ps : List Piece). record t { front = v.front; has_object = true; route = v.route; put_backs = v.put_backs; entered = v.entered; taken = ps }) (sym same))
 
   -- Giving the object back notes no piece if none was taken meanwhile.
-  pub gave_back : (v w : TicketView C R) (after : List Piece) → w ≡ record v { has_object = false; route = []; pieces = v.pieces ++ added v.taken after; taken = []; looks = true } → v.taken ≡ after
-      → w ≡ record v { has_object = false; route = []; taken = []; looks = true }
+  pub gave_back : (v w : TicketView C R) (after : List Piece) → w ≡ record v { has_object = false; route = []; pieces = v.pieces ++ added v.taken after; taken = [] } → v.taken ≡ after
+      → w ≡ record v { has_object = false; route = []; taken = [] }
   gave_back v w after released same =
       let none : added v.taken after ≡ [] = ap (added v.taken) (sym same ∙ sym (append-nil v.taken)) ∙ drop-append_seam v.taken [] in
       let kept : v.pieces ++ added v.taken after ≡ v.pieces = ap (λ (ps : List Piece). v.pieces ++ ps) none ∙ append-nil v.pieces in
-      released ∙ ap (λ (q : List Piece). record v { has_object = false; route = []; pieces = q; taken = []; looks = true }) kept
+      released ∙ ap (λ (q : List Piece). record v { has_object = false; route = []; pieces = q; taken = [] }) kept
 
   -- The session made a pass meanwhile, and noted no piece.
   passed : (t v w : TicketView C R) (all : List Piece) → v ≡ record t { front = v.front; has_object = true; route = v.route; put_backs = v.put_backs; entered = v.entered; taken = all }
-      → w ≡ record v { has_object = false; route = []; taken = []; looks = true } → t.has_object ≡ false → t.route ≡ [] → t.taken ≡ [] → w ≡ record t { front = w.front; put_backs = w.put_backs; entered = w.entered; looks = true }
+      → w ≡ record v { has_object = false; route = []; taken = [] } → t.has_object ≡ false → t.route ≡ [] → t.taken ≡ [] → w ≡ record t { front = w.front; put_backs = w.put_backs; entered = w.entered }
   passed t v w all late released lacked no_walk untaken =
-      let whole : w ≡ record t { front = v.front; put_backs = v.put_backs; entered = v.entered; has_object = false; route = []; taken = []; looks = true }
-      = released ∙ ap (λ (x : TicketView C R). record x { has_object = false; route = []; taken = []; looks = true }) late in
+      let whole : w ≡ record t { front = v.front; put_backs = v.put_backs; entered = v.entered; has_object = false; route = []; taken = [] }
+      = released ∙ ap (λ (x : TicketView C R). record x { has_object = false; route = []; taken = [] }) late in
       let both : (v.front, (v.put_backs, v.entered)) ≡ (w.front, (w.put_backs, w.entered)) = sym (ap (λ (x : TicketView C R). (x.front, (x.put_backs, x.entered))) whole) in
-      whole ∙ (same_rest t v.front v.put_backs v.entered t.pieces lacked no_walk untaken ∙ ap (λ (k : List (Entry C R) × (ℕ × List ℕ)). record t { front = k.0; put_backs = k.1.0; entered = k.1.1; looks = true }) both)
+      whole ∙ (same_rest t v.front v.put_backs v.entered t.pieces lacked no_walk untaken ∙ ap (λ (k : List (Entry C R) × (ℕ × List ℕ)). record t { front = k.0; put_backs = k.1.0; entered = k.1.1 }) both)
 
 module _ {O C R : Type 0} {obj : Ghosts O C R} where
   -- The session looked at the object meanwhile, and noted no piece.
-  pub looked : (before mid after : TicketView C R) → HasBegunToLook obj before mid → after ≡ record mid { has_object = false; route = []; taken = []; looks = true } → HasLooked obj before after
+  pub looked : (before mid after : TicketView C R) → HasBegunToLook obj before mid → after ≡ record mid { has_object = false; route = []; taken = [] } → HasLooked obj before after
   looked before mid after b released =
-      let whole : after ≡ record before { front = mid.front; has_object = false; route = []; taken = []; looks = true }
-      = released ∙ ap (λ (x : TicketView C R). record x { has_object = false; route = []; taken = []; looks = true }) b.session in
+      let whole : after ≡ record before { front = mid.front; has_object = false; route = []; taken = [] }
+      = released ∙ ap (λ (x : TicketView C R). record x { has_object = false; route = []; taken = [] }) b.session in
       let front : after.front ≡ mid.front = ap (λ (x : TicketView C R). x.front) whole in
       record {
-        session = whole ∙ (same_rest before mid.front before.put_backs before.entered before.pieces b.lacked b.no_walk b.untaken ∙ ap (λ (f : List (Entry C R)). record before { front = f; looks = true }) (sym front));
+        session = whole ∙ (same_rest before mid.front before.put_backs before.entered before.pieces b.lacked b.no_walk b.untaken ∙ ap (λ (f : List (Entry C R)). record before { front = f }) (sym front));
         longer = subst (IsPrefix before.front) (sym front) b.longer;
         legal = subst obj.is_legal (sym front) b.legal;
       }
 
 module _ {O C R : Type 0} {obj : Ghosts O C R} where
   -- A pass that was made and ended.
-  pub pass-ended : (n : ℕ) (before mid after : TicketView C R) (load : Load O C R) (served : ℕ) → HasMadePass obj n before mid load served → after ≡ record mid { has_object = false; route = []; taken = []; looks = true }
+  pub pass-ended : (n : ℕ) (before mid after : TicketView C R) (load : Load O C R) (served : ℕ) → HasMadePass obj n before mid load served → after ≡ record mid { has_object = false; route = []; taken = [] }
       → IsPassed obj before after served
   pass-ended n before mid after load served m released =
       let front : after.front ≡ mid.front = ap (λ (x : TicketView C R). x.front) released in

@@ -1,10 +1,8 @@
 -- A whole call of a session: what it knows from turn to turn, and at its end.
-use Rattle.std.proofs.Common.{◌≡◌, ◌≢◌, ℕ, ◌+◌, ◌-◌, ◌*◌, ◌/◌, ◌%◌, ◌≤◌, ◌⊎◌, inl, inr, ⊎_elim, Bool, true, false, Option, Some, None, List, [], ◌∷◌, ◌++◌, length, refl, sym, ap, ◌∙◌, subst, arith, append_assoc, length-append}
+use Rattle.std.proofs.Common.{◌≡◌, ◌≢◌, ℕ, ◌+◌, ◌⊎◌, inl, inr, ⊎_elim, Bool, true, Option, Some, None, List, [], ◌∷◌, ◌++◌, length, refl, sym, ap, ◌∙◌, subst, arith, append_assoc, length-append}
 use Rattle.std.specs.List.{range_with_len}
 use mathlib.Core.List.{IsPrefix}
 use mathlib.Core.Option as opt
-use mathlib.Core.Logic.{dite}
-use native.Mathlib.Decide.{ℕ_discrete}
 use lib.ListN.{get_elem?}
 use Rattle.sequential.specs.declared.entry.Entry.{Entry}
 use Rattle.sequential.specs.Histories.{Answered, calls_of}
@@ -12,7 +10,6 @@ use Rattle.publication.specs.Views.{TicketView, Pending, entry, answer, asks}
 use Rattle.publication.specs.Boards.{publishing, enlisted, tried}
 use Rattle.publication.proofs.Lists.{prefix_self, prefix_trans}
 use Rattle.combining.proofs.EndedWaits.{elem-seam}
-use Rattle.combining.specs.declared.backoff.Backoff.{Backoff as Pause}
 use Rattle.combining.specs.declared.office.Answer.{Answer}
 use Rattle.combining.specs.declared.calling.CallOutcome.{CallOutcome}
 use Rattle.combining.specs.declared.calling.CallOutcome.TheVariants.{Answered as IsDone, Starved as HasNone, Wait as Waits}
@@ -20,20 +17,17 @@ use Rattle.combining.specs.Sessions.{HasTriedToList, IsPassed, IsCollected, IsPe
 use Rattle.publication.specs.declared.board.Posted.{Posted}
 use Rattle.publication.specs.declared.board.Posted.TheVariants.{Listed, Unlisted}
 use Rattle.combining.specs.Calls.{HasGoneOn}
-use Rattle.combining.specs.Waits.{FitIntoLooks}
-use Rattle.combining.specs.Turns.{HasAwaited, HasTurned}
 use Rattle.combining.specs.Woken.{IsNotedUpTo}
-use Rattle.combining.specs.declared.backoff.TheConstants.{LOOKS_PER_TRY}
 use Rattle.combining.specs.Calls.{later, IsWaitingOn, IsAnswered, IsCalled, IsCalling}
 use Rattle.sequential.specs.declared.object.Sequential.{Ghosts}
 
 module _ {C R : Type 0} where
   -- A session of which nothing else changed than a turn may change is as `later` has it.
-  pub fits : (t u : TicketView C R) (q : Option (Pending C)) (cs : List (Answered C R)) (f : List (Entry C R)) (h : List ℕ) (l : Bool) (n p : ℕ) (m : List ℕ) (b : Bool)
-      → u ≡ record t { pending = q; collected = cs; front = f; heard = h; listed = l; tries = n; put_backs = p; entered = m; looks = b } → u ≡ later t q cs u
-  fits t u q cs f h l n p m b is = is ∙ ap
-      (λ (k : List (Entry C R) × (List ℕ × (Bool × (ℕ × (ℕ × (List ℕ × Bool)))))). record t { pending = q; collected = cs; front = k.0; heard = k.1.0; listed = k.1.1.0; tries = k.1.1.1.0; put_backs = k.1.1.1.1.0; entered = k.1.1.1.1.1.0; looks = k.1.1.1.1.1.1 })
-      (sym (ap (λ (x : TicketView C R). (x.front, (x.heard, (x.listed, (x.tries, (x.put_backs, (x.entered, x.looks))))))) is))
+  pub fits : (t u : TicketView C R) (q : Option (Pending C)) (cs : List (Answered C R)) (f : List (Entry C R)) (h : List ℕ) (l : Bool) (n p : ℕ) (m : List ℕ)
+      → u ≡ record t { pending = q; collected = cs; front = f; heard = h; listed = l; tries = n; put_backs = p; entered = m } → u ≡ later t q cs u
+  fits t u q cs f h l n p m is = is ∙ ap
+      (λ (k : List (Entry C R) × (List ℕ × (Bool × (ℕ × (ℕ × List ℕ))))). record t { pending = q; collected = cs; front = k.0; heard = k.1.0; listed = k.1.1.0; tries = k.1.1.1.0; put_backs = k.1.1.1.1.0; entered = k.1.1.1.1.1 })
+      (sym (ap (λ (x : TicketView C R). (x.front, (x.heard, (x.listed, (x.tries, (x.put_backs, x.entered)))))) is))
 
   -- A front that stays begins itself.
   stays : (t u : TicketView C R) (f : List (Entry C R)) → u.front ≡ f → IsPrefix t.front f → IsPrefix t.front u.front
@@ -55,20 +49,18 @@ module _ {C R : Type 0} where
     where
       from : (h : List ℕ) (l : Bool) (n : ℕ) → u ≡ record t { heard = h; listed = l; tries = n } → IsWaitingOn t u
       from h l n is = record {
-        session = fits t u t.pending t.collected t.front h l n t.put_backs t.entered t.looks is;
+        session = fits t u t.pending t.collected t.front h l n t.put_backs t.entered is;
         longer = stays t u t.front (ap (λ (x : TicketView C R). x.front) is) (prefix_self t.front);
         entered = keeps t u (ap (λ (x : TicketView C R). x.entered) is);
-        looks = λ e. ap (λ (x : TicketView C R). x.looks) is ∙ e;
       }
 
   -- Waiting goes on.
   pub waiting-trans : (t u v : TicketView C R) → IsWaitingOn t u → IsWaitingOn u v → IsWaitingOn t v
   waiting-trans t u v first last = record {
-    session = fits t v t.pending t.collected v.front v.heard v.listed v.tries v.put_backs v.entered v.looks
+    session = fits t v t.pending t.collected v.front v.heard v.listed v.tries v.put_backs v.entered
         (last.session ∙ ap (λ (x : TicketView C R). later x x.pending x.collected v) first.session);
     longer = prefix_trans t.front u.front v.front first.longer last.longer;
     entered = prefix_trans t.entered u.entered v.entered first.entered last.entered;
-    looks = λ e. last.looks (first.looks e);
   }
 
 module _ {O C R : Type 0} {obj : Ghosts O C R} where
@@ -77,11 +69,10 @@ module _ {O C R : Type 0} {obj : Ghosts O C R} where
   waiting-passed t u served p =
       let first = waiting-tried t p.between p.is_tried in
       record {
-        session = fits t u t.pending t.collected u.front p.between.heard p.between.listed p.between.tries u.put_backs u.entered true
-            (p.session ∙ ap (λ (x : TicketView C R). record x { front = u.front; put_backs = u.put_backs; entered = u.entered; looks = true }) first.session);
+        session = fits t u t.pending t.collected u.front p.between.heard p.between.listed p.between.tries u.put_backs u.entered
+            (p.session ∙ ap (λ (x : TicketView C R). record x { front = u.front; put_backs = u.put_backs; entered = u.entered }) first.session);
         longer = (p.others ++ p.own, sym (p.front ∙ append_assoc t.front p.others p.own));
         entered = (range_with_len (length (t.front ++ p.others)) served, sym p.entered);
-        looks = λ _. ap (λ (x : TicketView C R). x.looks) p.session;
       }
 
   -- A session that waited collects its answer.
@@ -94,12 +85,11 @@ module _ {O C R : Type 0} {obj : Ghosts O C R} where
         c.floor,
         sym pending ∙ c.pending,
         record {
-          session = fits t v None (t.collected ++ answer place c.call reply ∷ []) v.front u.heard u.listed u.tries u.put_backs u.entered u.looks
+          session = fits t v None (t.collected ++ answer place c.call reply ∷ []) v.front u.heard u.listed u.tries u.put_backs u.entered
               (c.session ∙ (ap (λ (x : TicketView C R). record x { front = v.front; pending = None; collected = u.collected ++ answer place c.call reply ∷ [] }) w.session
               ∙ ap (λ (l : List (Answered C R)). record (later t t.pending t.collected u) { front = v.front; pending = None; collected = l ++ answer place c.call reply ∷ [] }) collected));
           longer = prefix_trans t.front u.front v.front w.longer c.longer;
           entered = subst (λ (l : List ℕ). IsPrefix t.entered l) (sym (ap (λ (x : TicketView C R). x.entered) c.session)) w.entered;
-          looks = λ e. ap (λ (x : TicketView C R). x.looks) c.session ∙ w.looks e;
           legal = c.legal;
           stands = subst (λ (n : ℕ). get_elem? v.front place ≡ opt.some (entry n c.call reply)) number c.stands;
           late = c.late;
@@ -120,29 +110,27 @@ module _ {C R : Type 0} where
 
       from : (h : List ℕ) (l : Bool) (n : ℕ) → u ≡ record p { heard = h; listed = l; tries = n } → IsWaitingOn p u
       from h l n is = record {
-        session = fits p u p.pending p.collected p.front h l n p.put_backs p.entered p.looks is;
+        session = fits p u p.pending p.collected p.front h l n p.put_backs p.entered is;
         longer = stays p u p.front (ap (λ (x : TicketView C R). x.front) is) (prefix_self p.front);
         entered = keeps p u (ap (λ (x : TicketView C R). x.entered) is);
-        looks = λ e. ap (λ (x : TicketView C R). x.looks) is ∙ e;
       }
 
 module _ {O C R : Type 0} {obj : Ghosts O C R} where
   -- The call that an idle session published waits for its answer.
   pub published : (s t v : TicketView C R) (call : C) → IsRefused obj s t ⊎ (t ≡ s) → IsWaitingOn (publishing t call) v → IsCalling s v call
-  published s t v call before w = ⊎_elim (λ r. from t.front t.put_backs t.entered true r.session r.longer (range_with_len (length (s.front ++ r.others)) (length r.own), sym r.entered) (λ _. refl))
-      (λ is. from s.front s.put_backs s.entered s.looks is (prefix_self s.front) (prefix_self s.entered) (λ e. e)) before
+  published s t v call before w = ⊎_elim (λ r. from t.front t.put_backs t.entered r.session r.longer (range_with_len (length (s.front ++ r.others)) (length r.own), sym r.entered))
+      (λ is. from s.front s.put_backs s.entered is (prefix_self s.front) (prefix_self s.entered)) before
     where
-      from : (f : List (Entry C R)) (n : ℕ) (m : List ℕ) (b : Bool) → t ≡ record s { front = f; put_backs = n; entered = m; looks = b } → IsPrefix s.front f → IsPrefix s.entered m → (s.looks ≡ true → b ≡ true) → IsCalling s v call
-      from f n m b is longer more rises =
+      from : (f : List (Entry C R)) (n : ℕ) (m : List ℕ) → t ≡ record s { front = f; put_backs = n; entered = m } → IsPrefix s.front f → IsPrefix s.entered m → IsCalling s v call
+      from f n m is longer more =
           let front : t.front ≡ f = ap (λ (x : TicketView C R). x.front) is in
           let grown : IsPrefix s.front t.front = subst (λ (l : List (Entry C R)). IsPrefix s.front l) (sym front) longer in
           record {
             floor = length t.front;
-            session = fits s v (Some (asks call (length t.front))) s.collected v.front v.heard v.listed v.tries v.put_backs v.entered v.looks
-                (w.session ∙ ap (λ (x : TicketView C R). record x { pending = Some (asks call (length t.front)); front = v.front; heard = v.heard; listed = v.listed; tries = v.tries; put_backs = v.put_backs; entered = v.entered; looks = v.looks }) is);
+            session = fits s v (Some (asks call (length t.front))) s.collected v.front v.heard v.listed v.tries v.put_backs v.entered
+                (w.session ∙ ap (λ (x : TicketView C R). record x { pending = Some (asks call (length t.front)); front = v.front; heard = v.heard; listed = v.listed; tries = v.tries; put_backs = v.put_backs; entered = v.entered }) is);
             longer = prefix_trans s.front t.front v.front grown w.longer;
             entered = prefix_trans s.entered t.entered v.entered (subst (λ (l : List ℕ). IsPrefix s.entered l) (sym (ap (λ (x : TicketView C R). x.entered) is)) more) w.entered;
-            looks = λ e. w.looks (ap (λ (x : TicketView C R). x.looks) is ∙ rises e);
             late = omega (arith, ap (λ (l : List (Entry C R)). length l) grown.1, length-append s.front grown.0);
           }
 
@@ -152,11 +140,10 @@ module _ {O C R : Type 0} {obj : Ghosts O C R} where
   performed-called first t u call place reply served idle p =
       let ahead : List (Entry C R) = t.front ++ p.others ++ p.ahead in
       let e : Entry C R = entry t.number call reply in record {
-        session = fits t u None (t.collected ++ answer place call reply ∷ []) u.front t.heard t.listed t.tries u.put_backs u.entered true
-            (p.session ∙ ap (λ (q : Option (Pending C)). record t { pending = q; collected = t.collected ++ answer place call reply ∷ []; front = u.front; put_backs = u.put_backs; entered = u.entered; looks = true }) idle);
+        session = fits t u None (t.collected ++ answer place call reply ∷ []) u.front t.heard t.listed t.tries u.put_backs u.entered
+            (p.session ∙ ap (λ (q : Option (Pending C)). record t { pending = q; collected = t.collected ++ answer place call reply ∷ []; front = u.front; put_backs = u.put_backs; entered = u.entered }) idle);
         longer = (p.others ++ p.ahead ++ e ∷ p.behind, whole);
         entered = (range_with_len (length (t.front ++ p.others)) (served + 1), sym p.entered);
-        looks = λ _. ap (λ (x : TicketView C R). x.looks) p.session;
         legal = p.legal;
         stands = subst (λ (l : List (Entry C R)). get_elem? l place ≡ opt.some e) (sym p.front) (subst (λ (n : ℕ). get_elem? (ahead ++ e ∷ p.behind) n ≡ opt.some e) (sym p.place_is) (elem-seam ahead e p.behind));
         late = omega (arith, p.place_is, length-append (t.front ++ p.others) p.ahead, length-append t.front p.others);
@@ -166,30 +153,6 @@ module _ {O C R : Type 0} {obj : Ghosts O C R} where
       whole : t.front ++ (p.others ++ p.ahead ++ entry t.number call reply ∷ p.behind) ≡ u.front
       whole = sym (p.front ∙ (append_assoc (t.front ++ p.others) p.ahead (entry t.number call reply ∷ p.behind) ∙ (append_assoc t.front p.others (p.ahead ++ entry t.number call reply ∷ p.behind)
           ∙ ap (λ (l : List (Entry C R)). t.front ++ l) (sym (append_assoc p.others p.ahead (entry t.number call reply ∷ p.behind))))))
-
-  -- A call that was published is answered.
-  pub published-called : (t u v : TicketView C R) (call : C) (place : ℕ) (reply : R) → IsWaitingOn (publishing t call) u → IsAnswered obj u v place reply → IsCalled obj t v call place reply
-  published-called t u v call place reply w a =
-      let known : C = a.0 in
-      let floor : ℕ = a.1 in
-      let at = a.3 in
-      let number : u.number ≡ t.number = ap (λ (x : TicketView C R). x.number) w.session in
-      let asked : Some (asks known floor) ≡ Some (asks call (length t.front)) = sym a.2 ∙ ap (λ (x : TicketView C R). x.pending) w.session in
-      let both : asks known floor ≡ asks call (length t.front) = cc asked in
-      let same : known ≡ call = ap (λ (q : Pending C). q.call) both in
-      let from : floor ≡ length t.front = ap (λ (q : Pending C). q.floor) both in
-      record {
-        session = fits t v None (t.collected ++ answer place call reply ∷ []) v.front v.heard v.listed v.tries v.put_backs v.entered v.looks
-            (at.session ∙ (ap (λ (x : TicketView C R). later x None (x.collected ++ answer place known reply ∷ []) v) w.session
-            ∙ ap (λ (x : C). later t None (t.collected ++ answer place x reply ∷ []) v) same));
-        longer = prefix_trans t.front u.front v.front w.longer at.longer;
-        entered = prefix_trans t.entered u.entered v.entered w.entered at.entered;
-        looks = λ e. at.looks (w.looks e);
-        legal = at.legal;
-        stands = subst (λ (x : C). get_elem? v.front place ≡ opt.some (entry t.number x reply)) same (subst (λ (n : ℕ). get_elem? v.front place ≡ opt.some (entry n known reply)) number at.stands);
-        late = omega (arith, at.late, from);
-        calls = subst (λ (n : ℕ). calls_of n v.front ≡ v.collected) number at.calls;
-      }
 
 -- What was published, whether or not it is listed.
 pub posted-cases : {A B D E : Type 0} (p : Posted) → (p ≡ Listed → A ⊎ B) → (p ≡ Unlisted → D × E) → A ⊎ (B ⊎ D)
@@ -230,11 +193,10 @@ module _ {C R : Type 0} where
   pub calling-on : (t u v : TicketView C R) (call : C) → IsCalling t u call → IsWaitingOn u v → IsCalling t v call
   calling-on t u v call k w = record {
     floor = k.floor;
-    session = fits t v (Some (asks call k.floor)) t.collected v.front v.heard v.listed v.tries v.put_backs v.entered v.looks
+    session = fits t v (Some (asks call k.floor)) t.collected v.front v.heard v.listed v.tries v.put_backs v.entered
         (w.session ∙ ap (λ (x : TicketView C R). later x x.pending x.collected v) k.session);
     longer = prefix_trans t.front u.front v.front k.longer w.longer;
     entered = prefix_trans t.entered u.entered v.entered k.entered w.entered;
-    looks = λ e. w.looks (k.looks e);
     late = k.late;
   }
 
@@ -254,12 +216,11 @@ module _ {O C R : Type 0} {obj : Ghosts O C R} where
       let same : known ≡ call = ap (λ (q : Pending C). q.call) both in
       let from : floor ≡ k.floor = ap (λ (q : Pending C). q.floor) both in
       record {
-        session = fits t v None (t.collected ++ answer place call reply ∷ []) v.front v.heard v.listed v.tries v.put_backs v.entered v.looks
+        session = fits t v None (t.collected ++ answer place call reply ∷ []) v.front v.heard v.listed v.tries v.put_backs v.entered
             (at.session ∙ (ap (λ (x : TicketView C R). later x None (x.collected ++ answer place known reply ∷ []) v) k.session
             ∙ ap (λ (x : C). later t None (t.collected ++ answer place x reply ∷ []) v) same));
         longer = prefix_trans t.front u.front v.front k.longer at.longer;
         entered = prefix_trans t.entered u.entered v.entered k.entered at.entered;
-        looks = λ e. at.looks (k.looks e);
         legal = at.legal;
         stands = subst (λ (x : C). get_elem? v.front place ≡ opt.some (entry t.number x reply)) same (subst (λ (n : ℕ). get_elem? v.front place ≡ opt.some (entry n known reply)) number at.stands);
         late = omega (arith, at.late, from, k.late);
@@ -270,90 +231,15 @@ module _ {O C R : Type 0} {obj : Ghosts O C R} where
   called-on t u call place reply k = record { longer = k.longer; entered = k.entered }
 
 -- What holds whichever the outcome of a turn is.
-pub by-next : {R P : Type 0} (r : CallOutcome R) → ((a : Answer R) → r ≡ IsDone a → P) → (r ≡ HasNone → P) → ((w : Pause) → r ≡ Waits w → P) → P
+pub by-next : {R P : Type 0} (r : CallOutcome R) → ((a : Answer R) → r ≡ IsDone a → P) → (r ≡ HasNone → P) → (r ≡ Waits → P) → P
 by-next (IsDone a) answered starved waits = answered a refl
 by-next HasNone answered starved waits = starved refl
-by-next (Waits w) answered starved waits = waits w refl
+by-next Waits answered starved waits = waits refl
 
 module _ {C R : Type 0} where
-  -- A session whose call goes on publishes calls as before.
-
-  pub waiting-live : (t u : TicketView C R) → IsWaitingOn t u → u.retired ≡ t.retired
-  waiting-live t u w = ap (λ (x : TicketView C R). x.retired) w.session
-
+  -- A session whose call is published publishes calls as before.
   pub calling-live : (t u : TicketView C R) (call : C) → IsCalling t u call → u.retired ≡ t.retired
   calling-live t u call k = ap (λ (x : TicketView C R). x.retired) k.session
-
-  -- A turn of the pending call of a session is a turn of this session, whatever call it is given.
-  pub awaited-turn : {A : Type 0} {is_called is_answered : ℕ → A → Type 0} {is_calling is_refused : Type 0} {n made : ℕ} {next : CallOutcome A} (t u : TicketView C R) → t.pending ≢ None → t.retired ≡ false
-      → HasAwaited t u is_answered next → HasTurned t u n made is_called is_answered is_calling is_refused next
-  awaited-turn {next = next} t u some live e = record {
-    awaited = λ _. e;
-    called = λ answer is none. absurd (some none);
-    idle = e.idle;
-    starved = λ is none. absurd (some none);
-    refused = λ is none. absurd (some none);
-    tried = λ wait is none _. absurd (some none);
-    published = λ wait is none _. absurd (some none);
-    live = by-next next (λ a is. (e.idle a is).1) (λ is. waiting-live t u (e.starved is).0 ∙ live) (λ w is. waiting-live t u (e.waits w is) ∙ live);
-    on = e.on;
-  }
-
-  -- How often a session has tried to have a call listed.
-
-  tries-of : (t u : TicketView C R) → u ≡ t → u.tries ≡ t.tries
-  tries-of t u is = ap (λ (x : TicketView C R). x.tries) is
-
-  pub tries-tried : (t u : TicketView C R) → HasTriedToList t u → u.tries ≤ t.tries + 1
-  tries-tried t u h = ⊎_elim
-      (λ a. ⊎_elim
-      (λ is. let n : u.tries ≡ t.tries + 1 = tries-of (tried t) u is in omega (arith, n))
-      (λ is. let n : u.tries ≡ t.tries + 1 = tries-of (tried (enlisted t)) u is in omega (arith, n))
-      a.1)
-      (λ b. let n = tries-of t u b.1 in omega (arith, n))
-      h
-
-  -- A session whose call is listed doesn't try to have it listed.
-  pub listed-tried : (t u : TicketView C R) → t.listed ≡ true → HasTriedToList t u → u.tries ≡ t.tries
-  listed-tried t u listed h = ⊎_elim (λ a. absurd (cc (listed, a.0.1))) (λ b. tries-of t u b.1) h
-
-  pub tries-posted : (t u : TicketView C R) (call : C) → (u ≡ enlisted (publishing t call)) ⊎ ((u ≡ tried (enlisted (publishing t call))) ⊎ (u ≡ tried (publishing t call))) → u.tries ≤ t.tries + 1
-  tries-posted t u call h = ⊎_elim
-      (λ is. let n : u.tries ≡ t.tries = tries-of (enlisted (publishing t call)) u is in omega (arith, n))
-      (λ r. ⊎_elim
-      (λ is. let n : u.tries ≡ t.tries + 1 = tries-of (tried (enlisted (publishing t call))) u is in omega (arith, n))
-      (λ is. let n : u.tries ≡ t.tries + 1 = tries-of (tried (publishing t call)) u is in omega (arith, n))
-      r)
-      h
-
-module _ {O C R : Type 0} {obj : Ghosts O C R} where
-  pub tries-passed : (t u : TicketView C R) (served : ℕ) → IsPassed obj t u served → u.tries ≤ t.tries + 1
-  tries-passed t u served p =
-      let n : u.tries ≡ p.between.tries = ap (λ (x : TicketView C R). x.tries) p.session in
-      let m = tries-tried t p.between p.is_tried in
-      omega (arith, n, m)
-
-  pub listed-passed : (t u : TicketView C R) (served : ℕ) → t.listed ≡ true → IsPassed obj t u served → u.tries ≡ t.tries
-  listed-passed t u served listed p = ap (λ (x : TicketView C R). x.tries) p.session ∙ listed-tried t p.between listed p.is_tried
-
--- Tries and looks.
-
--- One try more fits into one look more, at every `LOOKS_PER_TRY`th look.
-fit-more : (tries looks : ℕ) → looks % LOOKS_PER_TRY ≡ 0 → FitIntoLooks tries looks → FitIntoLooks (tries + 1) (looks + 1)
-fit-more tries looks due fit = let q = div_mod looks in omega (arith, due, fit, q)
-  where
-    div_mod : (n : ℕ) → n ≡ 8 * (n / 8) + n % 8
-    div_mod n = omega arith
-
--- In one look more the session tries once more at most, at every `LOOKS_PER_TRY`th look.
-pub fit-next : (first before after looks : ℕ) → FitIntoLooks (before - first) looks → after ≤ before + 1 → (looks % LOOKS_PER_TRY ≢ 0 → after ≡ before) → FitIntoLooks (after - first) (looks + 1)
-fit-next first before after looks fit few same = dite (ℕ_discrete (looks % LOOKS_PER_TRY) 0)
-    (λ due. let more = fit-more (before - first) looks due fit in omega (arith, few, more))
-    (λ between. let n = same between in omega (arith, fit, n))
-
--- Tries that fit into looks fit into more.
-pub fit-longer : (tries looks more : ℕ) → looks ≤ more → FitIntoLooks tries looks → FitIntoLooks tries more
-fit-longer tries looks more le fit = omega (arith, le, fit)
 
 module _ {O C R : Type 0} {obj : Ghosts O C R} where
   -- What is noted behind the pass in which a call was performed is true of the front up to it.

@@ -1,5 +1,5 @@
 -- A whole call of a session, from an idle session to its answer or to a pending call.
-use Rattle.std.specs.Prelude.{◌≡◌, ◌⊎◌, ℕ, ◌<◌, ◌≤◌, true, Option, Some, None, List, [], ◌∷◌, ◌++◌, length}
+use Rattle.std.specs.Prelude.{◌≡◌, ◌⊎◌, ℕ, ◌<◌, ◌≤◌, Option, Some, None, List, [], ◌∷◌, ◌++◌, length}
 use mathlib.Core.Option as opt
 use mathlib.Core.List.{IsPrefix}
 use lib.ListN.{get_elem?}
@@ -10,8 +10,7 @@ use Rattle.combining.specs.Sessions.{IsRefused}
 
 module _ {C R : Type 0} where
   -- What else may have changed of a session that made a call: it may know more of the history, what it has heard of itself, whether
-  -- its last call was listed, how often it tried to have one listed, how many calls it put back, which places it entered, and whether it
-  -- has to look for sessions that sleep.
+  -- its last call was listed, how often it tried to have one listed, how many calls it put back, and which places it entered.
   abbrev pub later : TicketView C R → Option (Pending C) → List (Answered C R) → TicketView C R → TicketView C R
   later before pending collected after = record before {
     pending = pending;
@@ -22,7 +21,6 @@ module _ {C R : Type 0} where
     tries = after.tries;
     put_backs = after.put_backs;
     entered = after.entered;
-    looks = after.looks;
   }
 
   -- The session goes on waiting for the answer to its pending call.
@@ -30,7 +28,6 @@ module _ {C R : Type 0} where
     pub session : after ≡ later before before.pending before.collected after
     pub longer : IsPrefix before.front after.front
     pub entered : IsPrefix before.entered after.entered
-    pub looks : before.looks ≡ true → after.looks ≡ true
 
   -- The session went on waiting, and put calls back in the pass that it made last.
   abbrev pub HasStarved : TicketView C R → TicketView C R → Type 0
@@ -42,7 +39,6 @@ module _ {O C R : Type 0} (obj : Ghosts O C R) where
     pub session : after ≡ later before None (before.collected ++ answer place call reply ∷ []) after
     pub longer : IsPrefix before.front after.front
     pub entered : IsPrefix before.entered after.entered
-    pub looks : before.looks ≡ true → after.looks ≡ true
     pub legal : obj.is_legal after.front
     pub stands : get_elem? after.front place ≡ opt.some (entry before.number call reply)
     -- the entry's place is not below the number of entries that the session knew when it made the call
@@ -68,7 +64,6 @@ module _ {C R : Type 0} where
     pub session : after ≡ later before (Some (asks call floor)) before.collected after
     pub longer : IsPrefix before.front after.front
     pub entered : IsPrefix before.entered after.entered
-    pub looks : before.looks ≡ true → after.looks ≡ true
     -- it was published when the session knew so many entries of the history
     pub late : length before.front ≤ floor
 

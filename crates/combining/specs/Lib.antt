@@ -5,7 +5,6 @@ pub mod Woken
 pub mod Calls
 pub mod Turns
 pub mod Looks
-pub mod Waits
 pub mod Rounds
 -- What only private contracts cite.
 pub mod inner

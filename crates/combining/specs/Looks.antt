@@ -27,9 +27,8 @@ module _ {O C R : Type 0} (obj : Ghosts O C R) where
     pub longer : IsPrefix before.front after.front
     pub legal : obj.is_legal after.front
 
-  -- The session looked at the object. It knows the whole history up to there, has to look whether a session sleeps, and is otherwise
-  -- unchanged.
+  -- The session looked at the object. It knows the whole history up to there, and is otherwise unchanged.
   pub record HasLooked (before after : TicketView C R) : Type 0 where
-    pub session : after ≡ record before { front = after.front; looks = true }
+    pub session : after ≡ record before { front = after.front }
     pub longer : IsPrefix before.front after.front
     pub legal : obj.is_legal after.front

@@ -1,5 +1,5 @@
 -- What contracts see of an office and its sessions.
-use Rattle.std.specs.Prelude.{◌≡◌, ◌≢◌, ◌⊎◌, ℕ, ◌+◌, ◌<◌, ◌≤◌, max, cond, Bool, true, false, Some, None, List, [], ◌∷◌, ◌++◌, length}
+use Rattle.std.specs.Prelude.{◌≡◌, ◌≢◌, ◌⊎◌, ℕ, ◌+◌, ◌<◌, ◌≤◌, max, cond, Bool, false, Some, None, List, [], ◌∷◌, ◌++◌, length}
 use Rattle.std.specs.List.{range_with_len}
 use mathlib.Core.Option as opt
 use mathlib.Core.List.{IsPrefix}
@@ -44,11 +44,11 @@ module _ {C R : Type 0} where
 module _ {O C R : Type 0} (obj : Ghosts O C R) where
   -- A pass by the session. If its pending call wasn't listed, it first tried once more to have it listed. It then knows
   -- the entries added before this pass, followed by those that this pass added, `served` of them, whose places are those that it
-  -- has entered. It may have put calls back. It gave the object back, so that it has to look whether a session sleeps.
+  -- has entered. It may have put calls back.
   pub record IsPassed (before after : TicketView C R) (served : ℕ) : Type 0 where
     pub between : TicketView C R
     pub is_tried : HasTriedToList before between
-    pub session : after ≡ record between { front = after.front; put_backs = after.put_backs; entered = after.entered; looks = true }
+    pub session : after ≡ record between { front = after.front; put_backs = after.put_backs; entered = after.entered }
     pub others : List (Entry C R)
     pub own : List (Entry C R)
     pub front : after.front ≡ before.front ++ others ++ own
@@ -67,7 +67,6 @@ module _ {O C R L : Type 0} (obj : Ghosts O C R) (lines : List (Entry C R) → L
     pub session : after ≡ record before {
       front = after.front;
       pieces = before.pieces ++ piece before.number first (length taken) ∷ [];
-      looks = true;
     }
     pub longer : IsPrefix before.front after.front
     pub legal : obj.is_legal after.front
@@ -105,7 +104,6 @@ module _ {O C R : Type 0} (obj : Ghosts O C R) where
       collected = before.collected ++ answer place call reply ∷ [];
       put_backs = after.put_backs;
       entered = after.entered;
-      looks = true;
     }
     pub others : List (Entry C R)
     pub ahead : List (Entry C R)
@@ -125,7 +123,7 @@ module _ {O C R : Type 0} (obj : Ghosts O C R) where
   -- followed by those that this pass added, whose places are those that it has entered. The pass may have put calls back. The
   -- session's calls in the known history are those that it collected before.
   pub record IsRefused (before after : TicketView C R) : Type 0 where
-    pub session : after ≡ record before { front = after.front; put_backs = after.put_backs; entered = after.entered; looks = true }
+    pub session : after ≡ record before { front = after.front; put_backs = after.put_backs; entered = after.entered }
     pub others : List (Entry C R)
     pub own : List (Entry C R)
     pub front : after.front ≡ before.front ++ others ++ own

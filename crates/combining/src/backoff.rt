@@ -1,61 +1,34 @@
-//! How a session waits between two turns of a call. Each number stands here, with its reason; bench/README.md has the figures.
+//! How a session waits between two turns of `call` and `resume`, and which of them try for the object. Each number stands here, with its
+//! reason; bench/README.md has the figures. No contract rests on them.
 
-ghost use Rattle.combining.specs.Waits.{IsWaitAfterTry, IsWaitAfterLook};
+ghost use Rattle.std.specs.Prelude.{◌≡◌, true};
 
 use std::{hint, thread};
 
-/// The tries to perform a call at once, before it is published. One: lost, the call is published at once, and its answer comes with the
-/// pass of whoever has the object.
-pub const TRIES_AT_ONCE: u64 = 1;
-
-/// The pause instructions behind a try that was lost, before the call is published.
-pub const PAUSES_BEFORE_PUBLISHING: u32 = 1;
-
 /// The looks for an answer between two tries to become the combiner, since each try takes a cache line from it.
-pub const LOOKS_PER_TRY: u64 = 8;
+const LOOKS_PER_TRY: u64 = 8;
 
 /// The pause instructions between two looks.
-pub const PAUSES: u32 = 256;
+const PAUSES: u32 = 256;
 
 /// The looks between two yields of the processor.
-pub const LOOKS_PER_YIELD: u64 = 64;
+const LOOKS_PER_YIELD: u64 = 64;
 
-/// What a session does before the next turn of its call.
-#[derive(Clone, Copy, Debug, PartialEq, Eq)]
-pub enum Backoff {
-    /// Makes so many pause instructions.
-    Pause(u32),
-    /// Yields the processor.
-    Yield,
+/// Whether a look for an answer, of which `looked` came before, tries for the object: the first one does.
+pub fn tries_at(looked: u64) -> bool
+    ensures { looked ≡ 0 → result ≡ true }
+{
+    looked % LOOKS_PER_TRY == 0
 }
 
-/// What to do after a try to perform a call at once: the call is published in the next turn, which comes at once.
-pub fn after_try() -> Backoff
-    ensures { IsWaitAfterTry result }
-{
-    Backoff::Pause(PAUSES_BEFORE_PUBLISHING)
-}
-
-/// What to do after a look for an answer, of which `looked` came before: a yield after every `LOOKS_PER_YIELD` looks, and pauses after
-/// the others.
-pub(crate) fn after_look(looked: u64) -> Backoff
-    ensures { IsWaitAfterLook looked result }
-{
+/// Waits after a look for an answer, of which `looked` came before: yields the processor after every `LOOKS_PER_YIELD` looks, and pauses
+/// after the others.
+pub fn back_off(looked: u64) {
     if looked % LOOKS_PER_YIELD == LOOKS_PER_YIELD - 1 {
-        Backoff::Yield
-    } else {
-        Backoff::Pause(PAUSES)
+        thread::yield_now();
+        return;
     }
-}
-
-/// Waits so, before the next turn of a call.
-pub fn back_off(wait: Backoff) {
-    match wait {
-        Backoff::Yield => thread::yield_now(),
-        Backoff::Pause(pauses) => {
-            for _pause in 0..pauses {
-                hint::spin_loop();
-            }
-        }
+    for _pause in 0..PAUSES {
+        hint::spin_loop();
     }
 }

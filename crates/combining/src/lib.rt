@@ -23,13 +23,10 @@ mod pass;
 mod rounds;
 mod woken_set;
 
-pub use backoff::{
-    Backoff, LOOKS_PER_TRY, LOOKS_PER_YIELD, PAUSES, PAUSES_BEFORE_PUBLISHING, TRIES_AT_ONCE,
-    after_try, back_off,
-};
+pub use backoff::{back_off, tries_at};
 pub use bounds::{MAX_WEIGHT, PassBound, UNBOUNDED};
-pub use calling::{CallOutcome, call, look, publish_if_idle, resume, turn};
+pub use calling::{CallOutcome, attempt, call, look, publish_if_idle, resume};
 pub use listener::{Listener, Nobody};
 pub use office::{Answer, HistoryPiece, Office, OpenFault, TryOutcome, Turn};
-pub use publication::{CloseFault, Load, Posted, Ticket as Session, TicketKnowledge};
+pub use publication::{CloseFault, Load, Posted, Ticket as Session};
 pub use woken_set::WokenSet;

@@ -1,11 +1,11 @@
 //! The office and the calls of its sessions.
 
-ghost use Rattle.std.specs.Prelude.{◌≡◌, ◌≢◌, ◌⊎◌, ◌+◌, ◌*◌, ◌<◌, ◌≤◌, ◌↔◌, [], true, false, IsTrue, Some, None, Err, IfOk, IfErr, IfSome, IfNone, length, max, slice_index};
+ghost use Rattle.std.specs.Prelude.{◌≡◌, ◌≢◌, ◌⊎◌, ◌+◌, ◌*◌, ◌<◌, ◌≤◌, ◌↔◌, [], true, false, IsTrue, Some, None, Err, IfOk, IfErr, IfSome, IfNone, length, max};
 ghost use Rattle.std.specs.List.{All};
 ghost use mathlib.Core.List.{IsPrefix};
 ghost use Rattle.sequential.specs.Histories.{calls_of};
 ghost use Rattle.publication.specs.StepKinds.{longer, maxes};
-ghost use Rattle.publication.specs.Boards.{HasCallsOf, heard_from, known_by, published_by, publishing, enlisted, tried, IsUnlisted, new_tickets, IsEachOnce};
+ghost use Rattle.publication.specs.Boards.{HasCallsOf, heard_from, published_by, publishing, enlisted, tried, IsUnlisted, new_tickets, IsEachOnce};
 ghost use Rattle.combining.specs.Sessions.{IsSessionOf, IsIdle, HasNothingPending, IsPendingServed, HasTriedToList, IsPassed, IsCollected};
 ghost use Rattle.combining.specs.Closed.{IsClosed};
 ghost use Rattle.combining.specs.Woken.{AreToldBy, entered_since, HasRoom};
@@ -14,13 +14,12 @@ ghost use Rattle.combining.specs.Rounds.{IsBound, IsUnmet, AreRounds, IsFull};
 mod looks;
 mod passes;
 mod perform;
-mod sleeping;
 mod taking;
 
 use crate::bounds::PassBound;
 use crate::listener::Listener;
 pub use perform::TryOutcome;
-use publication::{Board, CloseFault, Posted, Ticket as Session, TicketKnowledge};
+use publication::{Board, CloseFault, Posted, Ticket as Session};
 use sequential::{Batching, Fresh, MAX_SESSIONS};
 use std::alloc::{AllocError as NoMemory, Global};
 use std::marker::Model;
@@ -188,39 +187,10 @@ impl<O: Batching> Office<O> {
         Some(Answer { place, reply })
     }
 
-    /// What `session` knows, as a value that may move to another thread: the front of the history that it knows, and
-    /// for each session the number of calls that it has heard of.
-    pub fn knowledge(&self, session: &mut Session<O>) -> TicketKnowledge<O>
-        requires ours { IsSessionOf self.now session.old }
-        ensures ours { IsSessionOf self.now session.new }
-        ensures same { session.new ≡ session.old }
-        ensures knowledge { result ≡ known_by session.old }
-    {
-        self.board.knowledge(session)
-    }
-
-    /// Lets `session` learn what another session knew when its `knowledge` was taken: the longer of both fronts of the
-    /// history, one of which begins the other, and for each session the larger number of calls that either had heard
-    /// of. What `session` publishes from then on gets a place behind all that the other knew.
-    pub fn heed(&self, session: &mut Session<O>, knowledge: TicketKnowledge<O>)
-        requires ours { IsSessionOf self.now session.old × (knowledge.board ≡ self.now.id) }
-        ensures ours { IsSessionOf self.now session.new }
-        ensures session { session.new ≡ record session.old {
-          front = longer session.old.front knowledge.front;
-          heard = maxes session.old.heard knowledge.heard;
-        } }
-        ensures fronts { IsPrefix session.old.front session.new.front × IsPrefix knowledge.front session.new.front }
-        ensures legal { O.is_legal session.new.front }
-        ensures heard { (j : _) → heard_from session.new j ≡ max (heard_from session.old j) (slice_index knowledge.heard j) }
-        ensures calls { HasCallsOf session.new.front session.new }
-    {
-        self.board.heed(session, knowledge);
-    }
-
     /// Lets `session` learn what `other` knows: the longer of their fronts of the history, one of which begins the
     /// other, and for each session the larger number of calls that either has heard of. `other` learns nothing. What
     /// `session` publishes from then on gets a place behind all that `other` knew. For two sessions that one thread has
-    /// in hand; `knowledge` and `heed` do the same between threads.
+    /// in hand.
     pub fn hear(&self, session: &mut Session<O>, other: &mut Session<O>)
         requires ours { IsSessionOf self.now session.old × IsSessionOf self.now other.old }
         ensures ours { IsSessionOf self.now session.new × IsSessionOf self.now other.new }

@@ -30,7 +30,7 @@ pub fn apply<M: Machine>(
 {
     match combining::call(office, session, call, u64::MAX, UNBOUNDED, &mut Nobody) {
         CallOutcome::Answered(answer) => Ok(answer.reply),
-        CallOutcome::Starved | CallOutcome::Wait(_) => Err(NoMemory),
+        CallOutcome::Starved | CallOutcome::Wait => Err(NoMemory),
     }
 }
 
@@ -49,6 +49,6 @@ pub fn finish<M: Machine>(
 {
     match combining::resume(office, session, u64::MAX, UNBOUNDED, &mut Nobody) {
         CallOutcome::Answered(answer) => Ok(answer.reply),
-        CallOutcome::Starved | CallOutcome::Wait(_) => Err(NoMemory),
+        CallOutcome::Starved | CallOutcome::Wait => Err(NoMemory),
     }
 }

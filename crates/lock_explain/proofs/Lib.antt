@@ -17,4 +17,3 @@ pub mod FallingVictims
 pub mod ChosenVictims
 pub mod VictimsTold
 pub mod WaitsTold
-pub mod WaitTexts

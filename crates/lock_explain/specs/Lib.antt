@@ -7,6 +7,5 @@ pub mod Explanations
 pub mod ExplanationText
 pub mod ExplanationRows
 pub mod ExplanationDot
-pub mod DeadlockText
 -- What only private contracts speak of.
 pub mod inner

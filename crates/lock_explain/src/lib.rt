@@ -5,7 +5,7 @@
 //! after: [`serve_explained`] serves a call on one of two books, and compares it with the other. Refusal and blockers are found in the
 //! book before the call (`asked.rt`, `refusal.rt`, `waiting.rt`), victims and grants by comparing both (`endings.rt`), cycles by a
 //! waits-for graph of its own, with the request in it (`cycles.rt`). `laws.rt` says what the definitions mean. The forms are written by
-//! `text.rt` with `request_text.rt`, `rows.rt` and `dot.rt`; `deadlock_text.rt` writes a deadlock that a lock table tells.
+//! `text.rt` with `request_text.rt`, `rows.rt` and `dot.rt`.
 //!
 //! Proved: an explanation has exactly what the definitions in `specs/` say of the call, and each text is exactly that of the explanation.
 //! Cycles are given as one connected part, not one by one. Only tested: what the texts look like. The only error is that memory was
@@ -14,7 +14,6 @@
 
 mod asked;
 mod cycles;
-mod deadlock_text;
 mod dot;
 mod endings;
 mod explaining;
@@ -26,7 +25,6 @@ mod rows;
 mod text;
 mod waiting;
 
-pub use deadlock_text::put_deadlock;
 pub use dot::explanation_dot;
 pub use explaining::{blockers_ahead, is_eventful, serve_eventful, serve_explained};
 pub use explanation::{

@@ -17,14 +17,11 @@ use Rattle.publication.specs.Views.{asks}
 use Rattle.publication.specs.Boards.{publishing, enlisted, tried}
 use Rattle.publication.specs.declared.board.Posted.{Posted}
 use Rattle.combining.specs.Calls as any
-use Rattle.combining.specs.declared.office.perform.TryOutcome.{TryOutcome}
-use Rattle.combining.specs.declared.calling.CallOutcome.{CallOutcome}
 use Rattle.combining.proofs.EndedWaits.{split-at}
 use Rattle.lock_office.specs.declared.session.Session.TheInside.{Inside}
 use Rattle.lock_office.specs.inner.Sessions.{MakesACall, IsReadable}
 use Rattle.lock_office.specs.ProgramBoards.{TicketView, Pending, ProgramEntry, program_object, IsLegal}
-use Rattle.lock_office.specs.Sessions.{IsPerformed}
-use Rattle.lock_office.specs.SingleCalls.{CallAnswer as Answer, MakesOneCall, IsLastReply, IsAnswered}
+use Rattle.lock_office.specs.SingleCalls.{MakesOneCall, IsLastReply}
 use Rattle.lock_office.proofs.OneReplies.{some-replies, one-reply}
 
 -- an answer in a legal history is one that its program can have
@@ -39,23 +36,9 @@ answered-between h front rest s p a legal is =
 pub answered-at : (h : List ProgramEntry) (i s : ℕ) (p : Program) (a : ProgramAnswer) → IsLegal h → get_elem? h i ≡ opt.some (entry s p a) → IsAnswer program_form p a
 answered-at h i s p a legal at = let cut = split-at h i (entry s p a) at in answered-between h (take i h) cut.0 s p a legal cut.1
 
-pub performed-answered : (s t : TicketView) (p : Program) (at : ℕ) (a : ProgramAnswer) (n : ℕ) → IsPerformed s t p at a n → IsAnswer program_form p a
-performed-answered s t p at a n h = answered-between t.front (s.front ++ h.others ++ h.ahead) h.behind s.number p a h.legal h.front
-
--- so that to a program of one call has one reply
-
-abbrev pub OneReply : Program → ProgramAnswer → Type 0
-OneReply p a = (reply : Reply) × (replies_of p a ≡ reply ∷ [])
-
-pub reply-at : (h : List ProgramEntry) (i s : ℕ) (p : Program) (a : ProgramAnswer) (c : Call) → MakesOneCall p c → IsLegal h → get_elem? h i ≡ opt.some (entry s p a) → OneReply p a
-reply-at h i s p a c one legal at = one-reply p a c one (answered-at h i s p a legal at)
-
--- to a program that makes a call there is a reply
+-- so that to a program that makes a call there is a reply
 pub replies-at : (h : List ProgramEntry) (i s : ℕ) (p : Program) (a : ProgramAnswer) → 0 < length (calls_of p) → IsLegal h → get_elem? h i ≡ opt.some (entry s p a) → 0 < length (replies_of p a)
 replies-at h i s p a some legal at = some-replies p a some (answered-at h i s p a legal at)
-
-pub performed-reply : (s t : TicketView) (p : Program) (at : ℕ) (a : ProgramAnswer) (n : ℕ) (c : Call) → MakesOneCall p c → IsPerformed s t p at a n → OneReply p a
-performed-reply s t p at a n c one h = one-reply p a c one (performed-answered s t p at a n h)
 
 -- what an answer tells as its last reply, and its place
 abbrev pub IsLastTold : Program → ProgramAnswer → ℕ → Reply → Type 0
@@ -96,20 +79,6 @@ module _ (s t : TicketView) (at : ℕ) (a : ProgramAnswer) (asked : Program) (d 
   pub pending-stands : get_elem? t.front at ≡ opt.some (entry s.number asked a)
   pending-stands = subst (λ (p : Program). get_elem? t.front at ≡ opt.some (entry s.number p a)) kept.0 d.3.stands
 
-  pub pending-replies : 0 < length (replies_of asked a)
-  pending-replies = subst (λ (p : Program). 0 < length (replies_of p a)) kept.0 (replies-at t.front at s.number d.0 a kept.1 d.3.legal d.3.stands)
-
-  pub pending-answered : (place : ℕ) (reply : Reply) → IsLastTold asked a place reply → (length (replies_of asked a) ≡ 1 → a.first ≡ place) → IsAnswered s t place reply
-  pending-answered place reply told first = record {
-    program = d.0;
-    floor = d.1;
-    pending = d.2;
-    answer = a;
-    at = at;
-    last = subst (λ (p : Program). IsLastReply p a place reply) (sym kept.0) (last-reply asked a place reply (answered-at t.front at s.number asked a d.3.legal pending-stands) told first);
-    answered = d.3;
-  }
-
 -- What is kept of a session, as it goes on.
 
 pub readable-on : (n : ℕ) (s : Inside) (t : TicketView) → IsReadable s → t.pending ≡ s.session.pending → IsReadable (record { session = t; asked = s.asked; seen = n })
@@ -137,18 +106,6 @@ asked-or p (Some r) = r.call
 -- a pending call is this program
 pub asks-same : (p q : Program) (a b : ℕ) (o : Option Pending) → o ≡ Some (asks p a) → o ≡ Some (asks q b) → q ≡ p
 asks-same p q a b o is also = sym (ap (asked-or p) (sym is ∙ also))
-
--- What is said of an outcome is said of its parts.
-
-pub read-performed : (P : Answer → ℕ → Bool → Type 0) (x y : Answer) (n m : ℕ) (b d : Bool) → TryOutcome.Answered x n b ≡ TryOutcome.Answered y m d → P x n b → P y m d
-read-performed P x y n m b d is h =
-    let e : x ≡ y = cc in
-    let f : n ≡ m = cc in
-    let g : b ≡ d = cc in
-    subst (λ (z : Answer). P z m d) e (subst (λ (k : ℕ). P x k d) f (subst (λ (q : Bool). P x n q) g h))
-
-pub read-next : (P : Answer → Type 0) (x y : Answer) → CallOutcome.Answered x ≡ CallOutcome.Answered y → P x → P y
-read-next P x y is h = let e : x ≡ y = cc in subst P e h
 
 -- a call that was published is pending
 pub published : {Y : Type 0} (s t : TicketView) (p : Program) (posted : Posted) → (posted ≡ Posted.Listed → (t ≡ enlisted (publishing s p)) ⊎ (t ≡ tried (enlisted (publishing s p))))

@@ -2,7 +2,6 @@
 pub mod by_calls
 pub mod ProgramBoards
 pub mod Sessions
-pub mod Single
 pub mod Closed
 pub mod HoldsAsTold
 pub mod Exclusion

@@ -15,7 +15,7 @@ use Rattle.lock_programs.specs.declared.answer.ProgramAnswer.{ProgramAnswer}
 use Rattle.lock_programs.specs.Answers.{program_form}
 use Rattle.lock_programs.specs.Nothing.{no_calls, no_replies}
 use Rattle.lock_desk.specs.BookView.{BookView}
-use Rattle.publication.specs.Views.{Pending as PendingOf, TicketView as TicketViewOf, KnowledgeView as KnowledgeViewOf}
+use Rattle.publication.specs.Views.{Pending as PendingOf, TicketView as TicketViewOf}
 use Rattle.publication.specs.Rule.{BoardState as BoardStateOf, IsHome as IsHomeOf}
 use Rattle.publication.specs.List.{IsRuled as IsRuledOf}
 use Rattle.publication.specs.Runs.{IsRun as IsRunOf}
@@ -66,9 +66,6 @@ Pending = PendingOf Program
 
 abbrev pub TicketView : Type 0
 TicketView = TicketViewOf Program ProgramAnswer
-
-abbrev pub KnowledgeView : Type 0
-KnowledgeView = KnowledgeViewOf Program ProgramAnswer
 
 abbrev pub Load : Type 0
 Load = LoadOf ProgramsView Program ProgramAnswer

@@ -7,16 +7,14 @@ ghost use Rattle.std.specs.Prelude.{◌≡◌, ◌≢◌, ◌⊎◌, ◌↔◌, 
 ghost use Rattle.std.specs.Global.{Box};
 ghost use Rattle.lock_modes.specs.declared.Mode.{Mode};
 ghost use Rattle.lock_rules.specs.declared.calls.Call.{Call};
-ghost use Rattle.lock_rules.specs.declared.calls.Reply.{Reply};
 ghost use Rattle.lock_rules.specs.declared.calls.Reply.TheVariants.{Waiting};
 ghost use Rattle.lock_rules.specs.Entries.{Answered};
 ghost use Rattle.lock_rules.specs.Legal.{state_of};
 ghost use Rattle.lock_rules.specs.Laws.{HoldsAtLeast, GoTogether};
 ghost use Rattle.lock_programs.specs.declared.program.Program.{Program};
-ghost use Rattle.lock_programs.specs.Calls.{calls_of};
-ghost use Rattle.lock_programs.specs.Answers.{replies_of, program_form};
+ghost use Rattle.lock_programs.specs.Answers.{program_form};
 ghost use Rattle.programs.specs.Laws.{IsBefore};
-ghost use Rattle.publication.specs.Views.{BoardView, answer, asks, entry};
+ghost use Rattle.publication.specs.Views.{BoardView, answer, asks};
 ghost use Rattle.publication.specs.BoardHistory.{new_board};
 ghost use Rattle.publication.specs.Boards.{HasCallsOf};
 ghost use Rattle.publication.specs.Collected.{HasCollected};
@@ -140,15 +138,3 @@ pub fn programs_stand_in_the_order_of_time()
     ensures known { (history : List ProgramEntry) (earlier floor place : ℕ) (x y : ProgramEntry) → IsLegal history → earlier < floor → floor ≤ place →
         slice_get history earlier ≡ Some x → slice_get history place ≡ Some y → IsBefore program_form x y }
 {}
-
-/// A program of one call that stands in a history of programs was answered with one reply (`answered`), so that `reply_of_one` of its
-/// answer isn't `None`. Its call is in the history of calls, at the place that the answer tells, with this reply.
-pub fn single_calls_stand_where_told()
-    ensures answered { (history : List ProgramEntry) (place : ℕ) (program : ProgramEntry) (call : Call) → IsLegal history →
-        slice_get history place ≡ Some program → calls_of program.call ≡ call ∷ [] → (reply : Reply) × (replies_of program.call program.reply ≡ reply ∷ []) }
-    ensures stands { (history : List ProgramEntry) (place : ℕ) (program : ProgramEntry) (call : Call) (reply : Reply) → IsLegal history →
-        slice_get history place ≡ Some program → calls_of program.call ≡ call ∷ [] → replies_of program.call program.reply ≡ reply ∷ [] →
-        slice_get (flat_history history) program.reply.first ≡ Some (entry program.session call reply) }
-{
-    programs_stand_side_by_side::<Book>();
-}

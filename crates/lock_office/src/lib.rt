@@ -2,7 +2,7 @@
 //! its object: what a session publishes is a program, one call of the lock table or several (a commit, an abort or neither, a begin or not,
 //! the calls of a path), served one after another up to the first that isn't granted or done. Begin with `session.rt`.
 //!
-//! - `opening.rt` opens an office that lets go of its history, `single.rt` reads the answer to a program of one call, `dump.rt` copies the
+//! - `opening.rt` opens an office that lets go of its history, `dump.rt` copies the
 //!   lock table. A session looks at the lock table, and asks there what a book is asked.
 //! - `laws.rt` says what holds of locks, `told_laws.rt` what answers to calls tell.
 //!
@@ -15,20 +15,18 @@ pub mod dump;
 pub mod laws;
 mod opening;
 mod session;
-mod single;
 pub mod told_laws;
 
 pub use combining::{
-    Backoff, CloseFault, Listener, Nobody, OpenFault, PassBound, Posted, Turn, UNBOUNDED, WokenSet,
-    back_off, call, look, resume, turn,
+    CloseFault, Listener, Nobody, OpenFault, PassBound, Posted, Turn, UNBOUNDED, WokenSet, call,
+    resume,
 };
 pub use dump::dump_book;
 use lock_desk::{Book, Entry, Reply};
 pub use lock_programs::{CALLS, Last, Program, ProgramAnswer, Start, Stop};
-pub use opening::{open_keeping, open_telling};
+pub use opening::open_telling;
 use programs::Programs;
-pub use session::{Knowledge, Session, WithSeen, last_of};
-pub use single::reply_of_one;
+pub use session::{Session, WithSeen, last_of};
 
 /// A lock table that threads share by reference, each with sessions of its own, which make programs.
 pub type Office = combining::Office<Programs<Book>>;
@@ -41,9 +39,6 @@ pub type Answer = combining::Answer<ProgramAnswer>;
 
 /// The answer to a single call, with its place in the history of calls.
 pub type CallAnswer = combining::Answer<Reply>;
-
-/// The outcome of one call of `Office::perform`.
-pub type TryOutcome = combining::TryOutcome<ProgramAnswer>;
 
 /// The outcome of one turn of a program, and of `call` and `resume`.
 pub type CallOutcome = combining::CallOutcome<ProgramAnswer>;

@@ -58,33 +58,12 @@ fn book_telling(
     }
 }
 
-/// Opens an office as `Office::open` does, whose lock table keeps at most the newest `bound` entries of the history of calls in memory.
-/// Older ones are let go as calls are served, so that the memory of an office follows what is held and waited for. Contracts go on to see
-/// the whole history. With `NO_BOUND` all entries are kept.
+/// Opens an office as `Office::open` does, whose lock table keeps at most the newest `bound` entries of the history of calls in memory, and
+/// the newest `deadlocks` deadlocks, which `Book::newest_deadlocks` tells. Older entries are let go as calls are served, so that the memory of
+/// an office follows what is held and waited for. Contracts go on to see the whole history. With `NO_BOUND` all entries are kept.
 ///
 /// Resources are hashed with a seed: where strangers choose the names of resources, one that is drawn by chance and kept secret. No reply
 /// and no history depends on it.
-pub fn open_keeping(
-    alloc: Global,
-    sessions: u16,
-    bound: u64,
-    seed: u64,
-) -> Result<(Office, Vec<Ticket>), OpenFault>
-    ensures none { (result ≡ Err OpenFault.NoSessions) ↔ (sessions ≡ 0) }
-    ensures many { (result ≡ Err OpenFault.TooManySessions) ↔ (MAX_SESSIONS < sessions) }
-    ensures office { IfOk result (λ made. made.0.sessions ≡ sessions) }
-    ensures bound { IfOk result (λ made. made.0.bound ≡ record { lines = bound; notes = 0 }) }
-    ensures sessions { IfOk result (λ made. made.1.items ≡ new_tickets made.0.id sessions sessions) }
-    ensures ready { IfOk result (λ made. All (λ session. IsSessionOf made.0 session × IsIdle session) made.1.items) }
-{
-    let book = book_seeded(alloc, sessions, bound, seed)?;
-    match Office::share(alloc, Programs::new(book)) {
-        Ok(made) => Ok(made),
-        Err(NoMemory) => Err(OpenFault::NoMemory),
-    }
-}
-
-/// Opens an office as `open_keeping` does, whose lock table keeps the newest `deadlocks` deadlocks, which `Book::newest_deadlocks` tells.
 pub fn open_telling(
     alloc: Global,
     sessions: u16,

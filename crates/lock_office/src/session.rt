@@ -1,8 +1,6 @@
 //! A session that makes single calls and programs at the office: each single call is a program of one call.
 //!
-//! Its single calls are those of `combining`, in its files `performing.rt`, `turning.rt` and `calling.rt`, and are answered with the place of
-//! the call in the history of calls, and the reply. `running.rt` makes a whole program, turn by turn. `looking.rt` hands out the lock table for
-//! questions. `sleeping.rt` is for callers whose threads park by themselves.
+//! `running.rt` makes a whole program, turn by turn. `looking.rt` hands out the lock table for questions.
 //!
 //! What is pending may be a program of several calls. A call that takes its answer as that of a single call tells the last reply and its place.
 
@@ -10,7 +8,7 @@ ghost use Rattle.std.specs.Prelude.{◌≡◌, ◌≢◌, ◌⊎◌, ◌+◌, �
 ghost use mathlib.Core.List.{IsPrefix};
 ghost use Rattle.sequential.specs.Histories.{calls_of as calls_of_session};
 ghost use Rattle.publication.specs.StepKinds.{longer, maxes};
-ghost use Rattle.publication.specs.Boards.{HasCallsOf, heard_from, known_by, publishing, enlisted, tried};
+ghost use Rattle.publication.specs.Boards.{HasCallsOf, heard_from, publishing, enlisted, tried};
 ghost use Rattle.lock_programs.specs.declared.program.Program.{Program as ProgramValue};
 ghost use Rattle.lock_programs.specs.Answers.{replies_of};
 ghost use Rattle.lock_rules.specs.declared.calls.Reply.{Reply as ReplyValue};
@@ -23,20 +21,15 @@ ghost use Rattle.lock_office.specs.Seen.{number_of_calls};
 ghost use Rattle.lock_office.specs.Sessions.{IsSessionOf, IsIdle, IsPendingServed, IsPassed, HasTakenPiece};
 ghost use Rattle.lock_office.specs.SingleCalls.{MakesOneCall, IsCollected};
 
-mod calling;
 mod counting;
 mod knowing;
 mod looking;
-mod performing;
 mod running;
-mod sleeping;
-mod turning;
 
 use crate::{CallAnswer as Answer, HistoryPiece, Office, Ticket};
 use combining::{Listener, PassBound, Posted, Turn};
 pub use counting::WithSeen;
 use counting::seen_behind;
-pub use knowing::Knowledge;
 use lock_desk::{Book, Call, Reply};
 use lock_programs::{Program, ProgramAnswer};
 use programs::Programs;
@@ -63,19 +56,6 @@ impl Model for Session {
     ghost view = { session_of };
 
     ghost invariant = { IsKept };
-}
-
-/// The answer to a program of one call that was served: the place of the call in the history of calls, and the reply.
-#[inline(always)]
-fn answer_of(asked: &Program, answer: &ProgramAnswer) -> Answer
-    requires served { (reply : ReplyValue) × (replies_of asked.now answer.now ≡ reply ∷ []) }
-    ensures replies { replies_of asked.now answer.now ≡ result.reply ∷ [] }
-    ensures place { answer.now.first ≡ result.place }
-{
-    combining::Answer {
-        place: answer.first(),
-        reply: answer.reply(asked, 0),
-    }
 }
 
 /// The last reply to a program of which a call was served, and its place in the history of calls.

@@ -277,7 +277,6 @@ module _ {O C R : Type 0} {obj : Ghosts O C R} where
     enter_goes : (more : List (ℕ × SlotValue O C R)) → Goes obj s 0 i (v, more) (enters call reply (step o.slots 0 0 0 opt.none) (v, more)) (word s 0)
     enter_goes more = (
       entering v log call reply,
-      refl,
       keeps,
       tt,
       subst (λ (ws : List ℕ). IsRuled obj record { words = ws; homes = s.homes; views = set s.views v.number (entering v log call reply) }) (sym (set-get_or s.words (word_of 0) 0)) (record { records = entered; list = still_listed }),
@@ -288,5 +287,5 @@ module _ {O C R : Type 0} {obj : Ghosts O C R} where
       (call : C) (reply : R) (legal : obj.is_legal (v.front ++ entry v.number call reply ∷ [])) (short : length v.front + 1 < 2 ^ 64) where
     -- Enter keeps the rule, for a combiner with no call pending and an entry that makes a longer legal history.
     pub enter_kept : {bound : Bounds} → Allows (IsBounded obj bound) slots id (v, more) 0 (λ n. n) (enters call reply (step slots 0 0 0 opt.none) (v, more))
-    enter_kept = seated slots id v.number 0 v more (λ n. n) (enters call reply (step slots 0 0 0 opt.none) (v, more)) refl some_number (λ _ n ne. ne)
+    enter_kept = seated slots id v.number 0 v more (λ n. n) (enters call reply (step slots 0 0 0 opt.none) (v, more)) refl some_number
         (λ s o l me small wide e. subst (λ (n : ℕ). Goes obj s 0 v.number (v, more) (enters call reply (step n 0 0 0 opt.none) (v, more)) (word s 0)) e (enter_goes v some_number s o l me small has none live call reply legal short more))

@@ -18,7 +18,7 @@ use Rattle.publication.specs.StepKinds.{Seated, handed_in}
 use Rattle.publication.specs.Collected.{HasCollected}
 use Rattle.publication.specs.BoardHistory.{history_of}
 use Rattle.publication.specs.Entered.{HasEnteredPlaces, AreRising, AreEnteredOnce}
-use Rattle.publication.specs.Runs.{StepName, start, post, look_at_head, link, enlist, look_for_reply, take_reply, look_at_lock, seize, release, walk, walk_on, unlink, mark_out, relink, look_at_record, open_record, lay, pick, answer_record, put_back, enter, learn, compare, retire, leave, drowse, kind_of, IsStep, IsSeatSplit, IsSeatJoin, IsMove, IsRun, stop, move}
+use Rattle.publication.specs.Runs.{StepName, start, post, look_at_head, link, enlist, look_for_reply, take_reply, look_at_lock, seize, release, walk, walk_on, unlink, mark_out, relink, look_at_record, open_record, lay, pick, answer_record, put_back, enter, learn, compare, retire, leave, kind_of, IsStep, IsSeatSplit, IsSeatJoin, IsMove, IsRun, stop, move}
 use Rattle.publication.specs.declared.view.View.{View}
 use Rattle.publication.specs.declared.slot.SlotValue.{SlotValue}
 use Rattle.publication.proofs.Lists.{at_there, each_set, each_snoc, past_end, at_pushed}
@@ -161,7 +161,6 @@ module _ {O C R : Type 0} where
       as-it-was compare slots at first second found other direct told = same told.0
       as-it-was retire slots at first second found other direct told = calmly _ _ told (refl, refl, refl)
       as-it-was leave slots at first second found other direct told = calmly _ _ told (refl, refl, refl)
-      as-it-was (drowse x) slots at first second found other direct told = calmly _ _ told.0 (refl, refl, refl)
 
 module _ {O C R : Type 0} (obj : Ghosts O C R) where
   -- What holds in each state that a run reaches: the history's places are shared out among the sessions.

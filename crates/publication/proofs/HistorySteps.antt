@@ -13,7 +13,7 @@ use Rattle.publication.specs.Rule.{blank, BoardState, word, home, seat, IsOrderl
 use Rattle.publication.specs.StepKinds.{Seated, started, asked, posting, linking, enlisting, losing_head, HasTaken, seizing, releasing, noted, routing, bypassing, none_unlinked, opened_in, opening, in_hand, called, call_at, replied, answering, putting_back, entering, longer, learning, retiring, leaving}
 use Rattle.publication.specs.Collected.{IsSeated}
 use Rattle.publication.specs.BoardHistory.{history_in}
-use Rattle.publication.specs.Runs.{StepName, start, post, look_at_head, link, enlist, look_for_reply, take_reply, look_at_lock, seize, release, walk, walk_on, unlink, mark_out, relink, look_at_record, open_record, lay, pick, answer_record, put_back, enter, learn, compare, retire, leave, drowse, kind_of, LaysDownLoad, StepRequires, LaysDownItsOwn}
+use Rattle.publication.specs.Runs.{StepName, start, post, look_at_head, link, enlist, look_for_reply, take_reply, look_at_lock, seize, release, walk, walk_on, unlink, mark_out, relink, look_at_record, open_record, lay, pick, answer_record, put_back, enter, learn, compare, retire, leave, kind_of, LaysDownLoad, StepRequires, LaysDownItsOwn}
 use Rattle.publication.specs.declared.view.View.{View}
 use Rattle.publication.specs.declared.slot.Load.{Load}
 use Rattle.publication.specs.declared.slot.SlotValue.{SlotValue}
@@ -152,7 +152,6 @@ module _ {O C R : Type 0} {obj : Ghosts O C R} where
     unchanged compare other direct asks told = same told.0
     unchanged retire other direct asks told = calmly (carries_same (ap (λ (x : Seated O C R). x.1) told)) (retiring m.0) _ told refl refl
     unchanged leave other direct asks told = calmly (carries_less asks.1 (ap (λ (x : Seated O C R). x.1) told)) (leaving m.0) _ told refl refl
-    unchanged (drowse x) other direct asks told = calmly (carries_same (ap (λ (y : Seated O C R). y.1) told.0)) _ _ told.0 refl refl
 
     -- The answer appends its entry to the history.
     pub joins : (call : C) → m.0.combiner.has_object ≡ true → opened_in m.0 m.0.combiner.hand ≡ Some call

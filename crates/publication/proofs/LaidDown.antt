@@ -6,10 +6,7 @@ use lib.ListN.{get_elem?}
 use Rattle.std.specs.Global.{Box}
 use Rattle.atomic_table.specs.Table.{Act, keeps, takes, gives, chain, Valid, homes_after, Splits, Joins}
 use Rattle.sequential.specs.declared.object.Sequential.{Ghosts}
-use Rattle.publication.specs.Sleep.{awake, taking_over}
-use Rattle.publication.specs.Rule.{blank}
 use Rattle.publication.specs.List.{IsRuled, IsBounded}
-use Rattle.publication.proofs.SleepRule.{sleepers_split, sleepers_joined, sleepers_gathered}
 use Rattle.publication.specs.declared.view.View.{View}
 use Rattle.publication.specs.declared.slot.Load.{Load}
 use Rattle.publication.specs.declared.slot.SlotValue.{SlotValue}
@@ -66,14 +63,10 @@ module _ {O C R : Type 0} where
   stays_home hs c (chain a b) fits load there = absurd fits
 
 module _ {O C R : Type 0} {obj : Ghosts O C R} {bound : Bounds} where
-  -- A split or a join of seats moves no value. The seat that is split knows the same of sleep, and the new one nothing; the one that is
-  -- joined in knows nothing of sleep, or the other takes over its looks.
+  -- A split or a join of seats moves no value.
 
-  pub splits_bounded : {id : ℕ} {v left right : View C R} → left.sleep ≡ v.sleep → right.sleep ≡ awake → Splits (IsRuled obj) id v left right → Splits (IsBounded obj bound) id v left right
-  splits_bounded {id} {v} {left} {right} same none t s b me = record { ruled = t s b.ruled me; within = b.within; sleepers = sleepers_split s id v left right me same none b.sleepers }
+  pub splits_bounded : {id : ℕ} {v left right : View C R} → Splits (IsRuled obj) id v left right → Splits (IsBounded obj bound) id v left right
+  splits_bounded t s b me = record { ruled = t s b.ruled me; within = b.within }
 
-  pub joins_bounded : {id : ℕ} {v : View C R} {other : ℕ} {w both : View C R} → both.sleep ≡ v.sleep → w.sleep ≡ awake → Joins (IsRuled obj) id v other w both blank → Joins (IsBounded obj bound) id v other w both blank
-  joins_bounded {id} {v} {other} {w} {both} same none t s b me apart beside = record { ruled = t s b.ruled me apart beside; within = b.within; sleepers = sleepers_joined s id v other w both me apart beside same none b.sleepers }
-
-  pub gathers_bounded : {id : ℕ} {v : View C R} {other : ℕ} {w both : View C R} → both.sleep ≡ taking_over v.sleep w.sleep → Joins (IsRuled obj) id v other w both blank → Joins (IsBounded obj bound) id v other w both blank
-  gathers_bounded {id} {v} {other} {w} {both} same t s b me apart beside = record { ruled = t s b.ruled me apart beside; within = b.within; sleepers = sleepers_gathered s id v other w both me apart beside same b.sleepers }
+  pub joins_bounded : {id : ℕ} {v : View C R} {other : ℕ} {w both spent : View C R} → Joins (IsRuled obj) id v other w both spent → Joins (IsBounded obj bound) id v other w both spent
+  joins_bounded t s b me apart beside = record { ruled = t s b.ruled me apart beside; within = b.within }

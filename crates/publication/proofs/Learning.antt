@@ -47,7 +47,7 @@ module _ {O C R : Type 0} {obj : Ghosts O C R} where
     account was = account-between v.number v.front (longer v.front v.others.beside) o.history v.own.collected v.own.pending is_long.mine is_long.begins was (account-whole s o i v me some_number (λ e. omega arith))
 
     compare_goes : (more : List (ℕ × SlotValue O C R)) → Goes obj s 0 i (v, more) (compares (step o.slots 0 0 0 opt.none) (v, more)) (word s 0)
-    compare_goes more = (v, refl, keeps, tt, unmoved s o l 0 i v me, (refl, account))
+    compare_goes more = (v, keeps, tt, unmoved s o l 0 i v me, (refl, account))
 
     learn_goes : AreFrontsLegal obj → (more : List (ℕ × SlotValue O C R)) → Goes obj s 0 i (v, more) (learns obj (step o.slots 0 0 0 opt.none) (v, more)) (word s 0)
     learn_goes fronts more = let k = is_long in let f : List (Entry C R) = longer v.front v.others.beside in
@@ -55,16 +55,15 @@ module _ {O C R : Type 0} {obj : Ghosts O C R} where
         let long : length vs ≡ length s.views = length-set s.views i (learning v) in
         let gone : StaysGone s (viewed s o vs) o.owns o.owns = λ j some few none. (each_set s.views i (learning v) blank (λ j x. (seat s j).number ≡ 0 → x.number ≡ 0) (at_there s.views i v blank me).1 (λ z. ap (λ (x : View C R). x.number) (sym is_me) ∙ z) (λ j ne z. z) j none, refl) in (
           learning v,
-          refl,
           keeps,
           tt,
           subst (λ (ws : List ℕ). IsRuled obj record { words = ws; homes = s.homes; views = vs }) (sym (set-get_or s.words 0 0)) (record {
-            records = learned s o i v f v.heard v.others v.sleep me refl k.begins
+            records = learned s o i v f v.heard v.others me refl k.begins
                 (λ has. let w = whole_of s o i v me has in prefix_whole f o.history k.begins (let a = length-begins v.front f k.mine in omega (arith, ap (λ (x : List (Entry C R)). length x) w)))
                 (heard_few s o i v me)
                 (subst (λ (x : View C R). AreTrue o.history (viewed s o vs) o.slots o.owns x.others) is_me (sits-others s o vs (omega arith) gone i))
                 (pieces_of_seat s o i v me).handed;
-            list = learned_listed s l i v f v.heard v.others v.sleep me;
+            list = learned_listed s l i v f v.heard v.others me;
           }),
           (
             refl,
@@ -84,10 +83,10 @@ module _ {O C R : Type 0} where
     module _ {obj : Ghosts O C R} {bound : Bounds} where
       -- Compare keeps the rule.
       pub compare_kept : Allows (IsBounded obj bound) slots id (v, more) 0 (λ n. n) (compares (step slots 0 0 0 opt.none) (v, more))
-      compare_kept = seated slots id v.number 0 v more (λ n. n) (compares (step slots 0 0 0 opt.none) (v, more)) refl some_number (λ _ n ne. ne)
+      compare_kept = seated slots id v.number 0 v more (λ n. n) (compares (step slots 0 0 0 opt.none) (v, more)) refl some_number
           (λ s o l me small wide e. compare_goes v.number v refl some_number s o l me small more)
 
       -- Learn keeps the rule.
       pub learn_kept : AreFrontsLegal obj → Allows (IsBounded obj bound) slots id (v, more) 0 (λ n. n) (learns obj (step slots 0 0 0 opt.none) (v, more))
-      learn_kept fronts = seated slots id v.number 0 v more (λ n. n) (learns obj (step slots 0 0 0 opt.none) (v, more)) refl some_number (λ _ n ne. ne)
+      learn_kept fronts = seated slots id v.number 0 v more (λ n. n) (learns obj (step slots 0 0 0 opt.none) (v, more)) refl some_number
           (λ s o l me small wide e. learn_goes v.number v refl some_number s o l me small fronts more)

@@ -1,7 +1,5 @@
 pub mod Lists
 pub mod SeatViews
-pub mod Sleepers
-pub mod SleepRule
 pub mod Histories
 pub mod Others
 pub mod Pieces
@@ -30,10 +28,6 @@ pub mod LongerFronts
 pub mod ChangedViews
 pub mod SplitsAndJoins
 pub mod Learning
-pub mod SleepKinds
-pub mod SleepLaws
-pub mod AtRest
-pub mod WrittenSessions
 pub mod Closed
 pub mod Gathering
 pub mod Collected

@@ -31,7 +31,7 @@ use Rattle.sequential.specs.declared.object.Sequential.{Ghosts}
 
 module _ {O C R : Type 0} {obj : Ghosts O C R} where
   -- The rule of the records depends on no link word.
-  pub reworded : (s : BoardState O C R) (ws : List ℕ) → length ws ≡ length s.words → ((j : ℕ) → get_or ws (word_of j) 0 ≡ word s j) → IsOrderly obj s → IsOrderly obj record { words = ws; homes = s.homes; views = s.views }
+  reworded : (s : BoardState O C R) (ws : List ℕ) → length ws ≡ length s.words → ((j : ℕ) → get_or ws (word_of j) 0 ≡ word s j) → IsOrderly obj s → IsOrderly obj record { words = ws; homes = s.homes; views = s.views }
   reworded s ws long same o = record {
     history = o.history;
     slots = o.slots;
@@ -127,7 +127,7 @@ module _ {O C R : Type 0} {obj : Ghosts O C R} where
 
     look_at_head_goes : (more : List (ℕ × SlotValue O C R)) → v.own.pending ≢ None → v.own.listed ≡ false
         → GoesAt obj s (link_of 0) i (v, more) (looks_at_head (step o.slots (link_of 0) 0 0 opt.none) (v, more)) (link s 0)
-    look_at_head_goes more waits unlisted = (v, refl, keeps, tt, same_rule (link_of 0), (refl, another (claim waits unlisted)))
+    look_at_head_goes more waits unlisted = (v, keeps, tt, same_rule (link_of 0), (refl, another (claim waits unlisted)))
 
     -- link
 
@@ -190,7 +190,6 @@ module _ {O C R : Type 0} {obj : Ghosts O C R} where
       link_goes : (more : List (ℕ × SlotValue O C R)) → GoesAt obj s (link_of i) i (v, more) (λ _. links (step o.slots (link_of i) head 0 opt.none) (v, more) head) head
       link_goes more = (
         linking v head,
-        refl,
         keeps,
         tt,
         record { records = same_calls (record { head_seen = Some head; route = v.listing.route; off = v.listing.off; before = v.listing.before; tries = v.listing.tries }) linked_words (length-set s.words (link_of i) head) word_same; list = link_listed },
@@ -277,12 +276,11 @@ module _ {O C R : Type 0} {obj : Ghosts O C R} where
       }
 
       enlist_won : (more : List (ℕ × SlotValue O C R)) → link s 0 ≡ head → GoesAt obj s (link_of 0) i (v, more) (enlists (step o.slots (link_of 0) head i opt.none) (v, more)) i
-      enlist_won more hit = (enlisting v, refl, keeps, tt, record { records = pushed_records; list = pushed_list hit }, ((λ _. refl), λ miss. absurd (miss hit)))
+      enlist_won more hit = (enlisting v, keeps, tt, record { records = pushed_records; list = pushed_list hit }, ((λ _. refl), λ miss. absurd (miss hit)))
 
       enlist_lost : (more : List (ℕ × SlotValue O C R)) → link s 0 ≢ head → GoesAt obj s (link_of 0) i (v, more) (enlists (step o.slots (link_of 0) head i opt.none) (v, more)) (link s 0)
       enlist_lost more miss = (
         losing_head v,
-        refl,
         keeps,
         tt,
         subst (λ (ws : List ℕ). IsRuled obj record { words = ws; homes = s.homes; views = set s.views i (losing_head v) }) (sym (set-get_or s.words (link_of 0) 0)) (record {
@@ -312,7 +310,6 @@ module _ {O C R : Type 0} {obj : Ghosts O C R} where
       walk_goes : (more : List (ℕ × SlotValue O C R)) → v.listing.off ≡ 0 → GoesAt obj s (link_of 0) i (v, more) (walks (step o.slots (link_of 0) 0 0 opt.none) (v, more)) (link s 0)
       walk_goes more none_off = (
         routing v l.list,
-        refl,
         keeps,
         tt,
         subst (λ (ws : List ℕ). IsRuled obj record { words = ws; homes = s.homes; views = set s.views i (routing v l.list) }) (sym (set-get_or s.words (link_of 0) 0)) (record {
@@ -328,7 +325,6 @@ module _ {O C R : Type 0} {obj : Ghosts O C R} where
           let r = here_walks in
           let chain = chain_right (link s) (link s 0) r.new v.listing.route (subst (λ (xs : List ℕ). Chain (link s) (link s 0) xs) r.list_is l.chain) in (
             v,
-            refl,
             keeps,
             tt,
             same_rule (link_of q),
@@ -353,20 +349,20 @@ module _ {O C R : Type 0} where
       -- Look at head keeps the rule, for a session with an unlisted pending call.
       pub look_at_head_kept : v.own.pending ≢ None → v.own.listed ≡ false
           → Allows (IsBounded obj bound) slots id (v, more) (link_of 0) (λ n. n) (looks_at_head (step slots (link_of 0) 0 0 opt.none) (v, more))
-      look_at_head_kept waits unlisted = seated_at slots id i (link_of 0) v more (λ n. n) (looks_at_head (step slots (link_of 0) 0 0 opt.none) (v, more)) is some_number (λ k e. omega (arith, e)) (λ e. absurd (omega (arith, e)))
+      look_at_head_kept waits unlisted = seated_at slots id i (link_of 0) v more (λ n. n) (looks_at_head (step slots (link_of 0) 0 0 opt.none) (v, more)) is some_number
           (λ s o l me small e. subst (λ (n : ℕ). GoesAt obj s (link_of 0) i (v, more) (looks_at_head (step n (link_of 0) 0 0 opt.none) (v, more)) (link s 0)) e
           (look_at_head_goes i v is some_number s o l me small more waits unlisted))
 
       -- Link keeps the rule, for a session with an unlisted pending call.
       pub link_kept : (head : ℕ) → v.own.pending ≢ None → v.own.listed ≡ false
           → Allows (IsBounded obj bound) slots id (v, more) (link_of i) (λ _. head) (λ _. links (step slots (link_of i) head 0 opt.none) (v, more) head)
-      link_kept head waits unlisted = seated_at slots id i (link_of i) v more (λ _. head) (λ _. links (step slots (link_of i) head 0 opt.none) (v, more) head) is some_number (λ k e. omega (arith, e)) (λ e. absurd (omega (arith, e)))
+      link_kept head waits unlisted = seated_at slots id i (link_of i) v more (λ _. head) (λ _. links (step slots (link_of i) head 0 opt.none) (v, more) head) is some_number
           (λ s o l me small e. link_goes i v is some_number s o l me small head waits unlisted more)
 
       -- Enlist keeps the rule, for a session that wrote this head into its link.
       pub enlist_kept : (head : ℕ) → v.own.pending ≢ None → v.listing.head_seen ≡ Some head
           → Allows (IsBounded obj bound) slots id (v, more) (link_of 0) (λ n. either (eqb n head) i n) (enlists (step slots (link_of 0) head i opt.none) (v, more))
-      enlist_kept head waits noted = seated_at slots id i (link_of 0) v more (λ n. either (eqb n head) i n) (enlists (step slots (link_of 0) head i opt.none) (v, more)) is some_number (λ k e. omega (arith, e)) (λ e. absurd (omega (arith, e)))
+      enlist_kept head waits noted = seated_at slots id i (link_of 0) v more (λ n. either (eqb n head) i n) (enlists (step slots (link_of 0) head i opt.none) (v, more)) is some_number
           (λ s o l me small e. subst (λ (n : ℕ). GoesAt obj s (link_of 0) i (v, more) (enlists (step n (link_of 0) head i opt.none) (v, more)) (either (eqb (link s 0) head) i (link s 0))) e
           (enlist_goes i v is some_number s o l me small head waits noted more))
 
@@ -374,13 +370,13 @@ module _ {O C R : Type 0} where
     module _ {obj : Ghosts O C R} {bound : Bounds} where
       -- Walk keeps the rule, for a combiner with no unlinked record.
       pub walk_kept : v.listing.off ≡ 0 → Allows (IsBounded obj bound) slots id (v, more) (link_of 0) (λ n. n) (walks (step slots (link_of 0) 0 0 opt.none) (v, more))
-      walk_kept none_off = seated_at slots id v.number (link_of 0) v more (λ n. n) (walks (step slots (link_of 0) 0 0 opt.none) (v, more)) refl (omega arith) (λ k e. omega (arith, e)) (λ e. absurd (omega (arith, e)))
+      walk_kept none_off = seated_at slots id v.number (link_of 0) v more (λ n. n) (walks (step slots (link_of 0) 0 0 opt.none) (v, more)) refl (omega arith)
           (λ s o l me small e. subst (λ (n : ℕ). GoesAt obj s (link_of 0) v.number (v, more) (walks (step n (link_of 0) 0 0 opt.none) (v, more)) (link s 0)) e
           (walk_goes v.number v refl (omega arith) s o l me small has more none_off))
 
       -- Walk on keeps the rule, from a record on the route.
       pub walk_on_kept : (q : ℕ) → IsOn q v.listing.route → Allows (IsBounded obj bound) slots id (v, more) (link_of q) (λ n. n) (walks_on (step slots (link_of q) 0 0 opt.none) (v, more))
       walk_on_kept q on = subst (λ (k : ℕ). Allows (IsBounded obj bound) slots id (v, more) (link_of q) (λ n. n) (walks_on_from slots k (v, more))) (sym (session_of_its_link q))
-          (seated_at slots id v.number (link_of q) v more (λ n. n) (walks_on_from slots q (v, more)) refl (omega arith) (λ k e. omega (arith, e)) (λ e. absurd (omega (arith, e)))
+          (seated_at slots id v.number (link_of q) v more (λ n. n) (walks_on_from slots q (v, more)) refl (omega arith)
           (λ s o l me small e. subst (λ (n : ℕ). GoesAt obj s (link_of q) v.number (v, more) (walks_on_from n q (v, more)) (link s q)) e
           (walk_on_goes v.number v refl (omega arith) s o l me small has more q on)))

@@ -1,5 +1,5 @@
 -- The kinds of step on the lock word keep the rule: look at lock, seize and release.
-use Rattle.std.proofs.Common.{◌≡◌, ◌≢◌, ℕ, zero, suc, ◌<◌, Bool, true, false, eqb, Some, None, List, [], ◌∷◌, ◌++◌, get_or, length, length-set, get_or-set_other, set, sym, refl, ap, ◌∙◌, subst, arith, append-nil}
+use Rattle.std.proofs.Common.{◌≡◌, ◌≢◌, ℕ, zero, suc, ◌<◌, true, false, eqb, Some, None, List, [], ◌∷◌, ◌++◌, get_or, length, length-set, get_or-set_other, set, sym, refl, ap, ◌∙◌, subst, arith, append-nil}
 use Rattle.sequential.specs.Bounds.{Bounds}
 use Rattle.std.proofs.lemmas.Bool.{false_from_ne_true}
 use mathlib.Core.Option as opt
@@ -12,14 +12,13 @@ use Rattle.std.specs.Global.{Box}
 use Rattle.atomic_table.specs.Table.{keeps, takes, gives, step, stepped, Allows}
 use Rattle.atomic_table.proofs.Lists.{exchanged}
 use Rattle.sequential.specs.declared.entry.Entry.{Entry}
-use Rattle.publication.specs.Words.{word_of, sleep_of, FREE}
+use Rattle.publication.specs.Words.{word_of, FREE}
 use Rattle.publication.specs.List.{belongs, IsWalking, IsLinked, IsRuled, IsBounded}
 use Rattle.publication.specs.Rule.{blank, BoardState, word, home, seat, no_combiner, pieces_in, IsHome, HasObject, IsOrderly}
 use Rattle.publication.specs.Pieces.{pieces_of, HasAdded, added}
 use Rattle.publication.specs.Views.{Combiner, Taken, IsAccountedIn}
 use Rattle.publication.specs.declared.piece.Piece.{Piece}
-use Rattle.publication.specs.Sleep.{Sleep, having_freed}
-use Rattle.publication.specs.StepKinds.{Seated, combiner, as_combiner, with_pieces, with_sleep, no_walk, HasOthers, looks_at_lock, seizing, Seized, seizes_within, releasing, releases}
+use Rattle.publication.specs.StepKinds.{combiner, as_combiner, with_pieces, no_walk, HasOthers, looks_at_lock, seizing, Seized, seizes_within, releasing, releases}
 use Rattle.publication.specs.declared.view.View.{View}
 use Rattle.publication.specs.declared.slot.Load.{Load}
 use Rattle.publication.specs.declared.slot.SlotValue.{SlotValue}
@@ -29,7 +28,6 @@ use Rattle.publication.proofs.SeatViews.{front_of, object_of, pieces_of_seat}
 use Rattle.publication.proofs.Pieces.{own_added, others_kept, within_added}
 use Rattle.publication.proofs.Accounts.{account-whole}
 use Rattle.publication.proofs.SessionKinds.{Goes, named, seated, seated_within, unmoved}
-use Rattle.publication.proofs.SleepRule.{sleepers_freed}
 use Rattle.publication.proofs.UnchangedList.{links_kept, aside}
 use Rattle.publication.proofs.OrderlyCombiner.{IsNothingOpened, IsLockStep, relocked}
 use Rattle.sequential.specs.declared.object.Sequential.{Ghosts}
@@ -39,14 +37,6 @@ pub nothing_at : {C : Type 0} (slots : ℕ) → IsNothingOpened {C = C} (no_comb
 nothing_at zero j call e = opt.some-ne-none (Some call) (sym e)
 nothing_at (suc n) zero call e = let t : None ≡ Some call = opt.some-injective None (Some call) e in absurd (cc t)
 nothing_at (suc n) (suc j) call e = nothing_at n j call e
-
--- An exchange of the lock word from FREE to i leaves it held if it was.
-stays_held : (i n : ℕ) → 0 < i → n ≢ FREE → either (eqb n FREE) i n ≢ FREE
-stays_held i n some ne = go (eqb n FREE)
-  where
-    go : (b : Bool) → either b i n ≢ FREE
-    go true e = omega (arith, e, some)
-    go false e = ne e
 
 module _ {O C R : Type 0} where
   -- Two lists of carried slots that begin with a load begin with the same one.
@@ -73,10 +63,10 @@ module _ {O C R : Type 0} {obj : Ghosts O C R} where
     object_here = ap (λ (u : View C R). u.combiner.has_object) is_me
 
     -- The publication list doesn't change, if no record is unlinked and no walk has begun.
-    still_listed : (n : ℕ) (at : opt.Option (SlotValue O C R)) (front : List (Entry C R)) (d : Combiner C) (q : Taken) (z : Sleep) → l.off ≡ 0
-        → IsLinked record { words = set s.words (word_of 0) n; homes = set s.homes 0 at; views = set s.views i (with_sleep (with_pieces (as_combiner v front d (no_walk v.listing)) q) z) }
-    still_listed n at front d q z none_off =
-        let u : View C R = with_sleep (with_pieces (as_combiner v front d (no_walk v.listing)) q) z in
+    still_listed : (n : ℕ) (at : opt.Option (SlotValue O C R)) (front : List (Entry C R)) (d : Combiner C) (q : Taken) → l.off ≡ 0
+        → IsLinked record { words = set s.words (word_of 0) n; homes = set s.homes 0 at; views = set s.views i (with_pieces (as_combiner v front d (no_walk v.listing)) q) }
+    still_listed n at front d q none_off =
+        let u : View C R = with_pieces (as_combiner v front d (no_walk v.listing)) q in
         let ws : List ℕ = set s.words (word_of 0) n in
         let hs : List (opt.Option (SlotValue O C R)) = set s.homes 0 at in
         let same : (j : ℕ) → 0 < j → get_or ws (word_of j) 0 ≡ word s j = λ j some. get_or-set_other s.words (word_of 0) (word_of j) n 0 (λ e. omega (arith, e)) in
@@ -95,7 +85,7 @@ module _ {O C R : Type 0} {obj : Ghosts O C R} where
         omega (arith, t.1)
 
     look_goes : (more : List (ℕ × SlotValue O C R)) → Goes obj s 0 i (v, more) (looks_at_lock (step o.slots 0 0 0 opt.none) (v, more)) (word s 0)
-    look_goes more = (v, refl, keeps, tt, unmoved s o l 0 i v me, (refl, another))
+    look_goes more = (v, keeps, tt, unmoved s o l 0 i v me, (refl, another))
 
     -- seize
 
@@ -106,7 +96,7 @@ module _ {O C R : Type 0} {obj : Ghosts O C R} where
       own_now : v.pieces.own ≡ pieces_of i o.pieces.all
       own_now = (pieces_of_seat s o i v me).own (λ e. omega arith) ∙ ap (λ (j : ℕ). pieces_of j o.pieces.all) is
 
-      seize_step : IsLockStep s o i v 0 i opt.none o.history (combiner v.combiner true v.combiner.opened 0) (no_walk v.listing) (record { own = v.pieces.own; all = o.pieces.all }) v.sleep me some_number
+      seize_step : IsLockStep s o i v 0 i opt.none o.history (combiner v.combiner true v.combiner.opened 0) (no_walk v.listing) (record { own = v.pieces.own; all = o.pieces.all }) me some_number
       seize_step = record {
         lock = refl;
         whole = refl;
@@ -138,19 +128,18 @@ module _ {O C R : Type 0} {obj : Ghosts O C R} where
       seize_won : (bound : Bounds) → IsBoundAt obj bound (home s 0) → (more : List (ℕ × SlotValue O C R)) → Goes obj s 0 i (v, more) (seizes_within obj bound (step o.slots 0 FREE i opt.none) (v, more)) i
       seize_won bound within more = let t = o.free hit in let load = t.0 in let noted_all : load.value.pieces.items ≡ o.pieces.all = ap pieces_in (sym t.1) ∙ o.pieces.home hit in (
         seizing v (obj.history load.value.object) load.value.pieces.items,
-        refl,
         takes 0 (ObjectLoad load),
         at_home s.homes 0 (ObjectLoad load) t.1,
         subst (λ (f : List (Entry C R)). IsRuled obj record { words = set s.words (word_of 0) i; homes = set s.homes 0 opt.none; views = set s.views i (seizing v f load.value.pieces.items) }) (sym t.2.history)
             (subst (λ (ps : List Piece). IsRuled obj record { words = set s.words (word_of 0) i; homes = set s.homes 0 opt.none; views = set s.views i (seizing v o.history ps) }) (sym noted_all) (record {
-              records = relocked s o i v 0 i opt.none o.history (combiner v.combiner true v.combiner.opened 0) (no_walk v.listing) (record { own = v.pieces.own; all = o.pieces.all }) v.sleep me some_number seize_step;
-              list = still_listed i opt.none o.history (combiner v.combiner true v.combiner.opened 0) (record { own = v.pieces.own; all = o.pieces.all }) v.sleep (l.whole hit);
+              records = relocked s o i v 0 i opt.none o.history (combiner v.combiner true v.combiner.opened 0) (no_walk v.listing) (record { own = v.pieces.own; all = o.pieces.all }) me some_number seize_step;
+              list = still_listed i opt.none o.history (combiner v.combiner true v.combiner.opened 0) (record { own = v.pieces.own; all = o.pieces.all }) (l.whole hit);
             })),
         (((λ _. (load, refl, seized load.value t.2 noted_all)), λ miss. absurd (miss hit)), λ _ other rest carried. subst (λ (b : Box (Load O C R)). obj.bound b.value.object ≡ bound) (first_load carried) (within load t.1)),
       )
 
     seize_lost : (bound : Bounds) (more : List (ℕ × SlotValue O C R)) → word s 0 ≢ FREE → Goes obj s 0 i (v, more) (seizes_within obj bound (step o.slots 0 FREE i opt.none) (v, more)) (word s 0)
-    seize_lost bound more miss = (v, refl, keeps, tt, unmoved s o l 0 i v me, (((λ hit. absurd (miss hit)), λ _. (refl, another miss)), λ hit. absurd (miss hit)))
+    seize_lost bound more miss = (v, keeps, tt, unmoved s o l 0 i v me, (((λ hit. absurd (miss hit)), λ _. (refl, another miss)), λ hit. absurd (miss hit)))
 
     seize_goes : (bound : Bounds) → IsBoundAt obj bound (home s 0) → (more : List (ℕ × SlotValue O C R)) → Goes obj s 0 i (v, more) (seizes_within obj bound (step o.slots 0 FREE i opt.none) (v, more)) (either (eqb (word s 0) FREE) i (word s 0))
     seize_goes bound within more = exchanged (word s 0) FREE i (Goes obj s 0 i (v, more) (seizes_within obj bound (step o.slots 0 FREE i opt.none) (v, more))) (λ hit. seize_won hit bound within more) (seize_lost bound more)
@@ -181,7 +170,7 @@ module _ {O C R : Type 0} {obj : Ghosts O C R} where
       none_here : IsNothingOpened (seat s i).combiner
       none_here = subst (λ (u : View C R). IsNothingOpened u.combiner) (sym is_me) none
 
-      release_step : IsLockStep s o i v 0 FREE (opt.some (ObjectLoad load)) o.history (combiner v.combiner false v.combiner.opened 0) (no_walk v.listing) now_taken (having_freed v.sleep) me some_number
+      release_step : IsLockStep s o i v 0 FREE (opt.some (ObjectLoad load)) o.history (combiner v.combiner false v.combiner.opened 0) (no_walk v.listing) now_taken me some_number
       release_step = record {
         lock = refl;
         whole = refl;
@@ -209,10 +198,10 @@ module _ {O C R : Type 0} {obj : Ghosts O C R} where
         subst (λ (f : List (Entry C R)). IsRuled obj record {
           words = set s.words (word_of 0) FREE;
           homes = set s.homes 0 (opt.some (ObjectLoad load));
-          views = set s.views i (with_sleep (with_pieces (as_combiner v f (combiner v.combiner false v.combiner.opened 0) (no_walk v.listing)) now_taken) (having_freed v.sleep));
+          views = set s.views i (with_pieces (as_combiner v f (combiner v.combiner false v.combiner.opened 0) (no_walk v.listing)) now_taken);
         }) (sym object.whole) (record {
-          records = relocked s o i v 0 FREE (opt.some (ObjectLoad load)) o.history (combiner v.combiner false v.combiner.opened 0) (no_walk v.listing) now_taken (having_freed v.sleep) me some_number release_step;
-          list = still_listed FREE (opt.some (ObjectLoad load)) o.history (combiner v.combiner false v.combiner.opened 0) now_taken (having_freed v.sleep) none_off;
+          records = relocked s o i v 0 FREE (opt.some (ObjectLoad load)) o.history (combiner v.combiner false v.combiner.opened 0) (no_walk v.listing) now_taken me some_number release_step;
+          list = still_listed FREE (opt.some (ObjectLoad load)) o.history (combiner v.combiner false v.combiner.opened 0) now_taken none_off;
         }),
         refl,
       )
@@ -224,12 +213,12 @@ module _ {O C R : Type 0} where
     module _ {obj : Ghosts O C R} {bound : Bounds} where
       -- Look at lock keeps the rule.
       pub look_at_lock_kept : Allows (IsBounded obj bound) slots id (v, more) 0 (λ n. n) (looks_at_lock (step slots 0 0 0 opt.none) (v, more))
-      look_at_lock_kept = seated slots id i 0 v more (λ n. n) (looks_at_lock (step slots 0 0 0 opt.none) (v, more)) is some_number (λ _ n ne. ne)
+      look_at_lock_kept = seated slots id i 0 v more (λ n. n) (looks_at_lock (step slots 0 0 0 opt.none) (v, more)) is some_number
           (λ s o l me small wide e. subst (λ (n : ℕ). Goes obj s 0 i (v, more) (looks_at_lock (step n 0 0 0 opt.none) (v, more)) (word s 0)) e (look_goes i v is some_number s o l me small more))
 
       -- Seize keeps the rule.
       pub seize_kept : Allows (IsBounded obj bound) slots id (v, more) 0 (λ n. either (eqb n FREE) i n) (seizes_within obj bound (step slots 0 FREE i opt.none) (v, more))
-      seize_kept = seated_within slots id i 0 v more (λ n. either (eqb n FREE) i n) (seizes_within obj bound (step slots 0 FREE i opt.none) (v, more)) is some_number (λ _ n ne. stays_held i n some_number ne)
+      seize_kept = seated_within slots id i 0 v more (λ n. either (eqb n FREE) i n) (seizes_within obj bound (step slots 0 FREE i opt.none) (v, more)) is some_number
           (λ s b me small wide e. subst (λ (n : ℕ). Goes obj s 0 i (v, more) (seizes_within obj bound (step n 0 FREE i opt.none) (v, more)) (either (eqb (word s 0) FREE) i (word s 0))) e
           (seize_goes i v is some_number s b.ruled.records b.ruled.list me small bound b.within more))
 
@@ -262,7 +251,6 @@ module _ {C R : Type 0} where
             record {
               ruled = subst (λ (k : ℕ). IsRuled obj (stepped s 0 FREE k ((0, ObjectLoad load) ∷ more) g.0 gives)) (sym t.0) g.1;
               within = λ other there. subst (λ (x : Box (Load O C R)). obj.bound x.value.object ≡ bound) (laid_down s.homes load other there (omega (arith, wide, slots_are, t.1))) kept;
-              sleepers = sleepers_freed s id v g.0 (set s.words 0 FREE) (set s.homes 0 (opt.some (ObjectLoad load))) me b.sleepers (ap (λ (x : Seated O C R). x.0.sleep) g.2) (length-set s.homes 0 (opt.some (ObjectLoad load))) (λ j. get_or-set_other s.words 0 (sleep_of j) FREE 0 (λ e. omega (arith, e)));
             },
             subst (λ (n : ℕ). releases (step n 0 FREE 0 opt.none) (v, (0, ObjectLoad load) ∷ more) FREE (g.0, more)) slots_are g.2,
           )

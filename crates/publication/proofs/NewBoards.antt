@@ -164,7 +164,6 @@ module _ {O C R : Type 0} {obj : Ghosts O C R} where
           let same : ObjectLoad load ≡ ObjectLoad other = opt.some-injective (ObjectLoad load) (ObjectLoad other) there in
           let one : load ≡ other = cc same in
           ap (λ (b : Box (Load O C R)). obj.bound b.value.object) (sym one) ∙ ap (bound_of obj.bound) (sym noted);
-      sleepers = record { heeded = λ j down. absurd (each (λ u. u.sleep.down ≡ true → ⊥) (λ e. cc e) (λ e. cc e) j down) };
     }
 
   -- The first seat of a board that has the rule makes one more session.

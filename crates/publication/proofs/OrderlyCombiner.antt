@@ -15,8 +15,7 @@ use Rattle.publication.specs.Words.{word_of, FREE, BUSY}
 use Rattle.publication.specs.Pieces.{pieces_of}
 use Rattle.publication.specs.Views.{Own, Combiner, Listing, Handed, Others, Taken, asks}
 use Rattle.publication.specs.Rule.{blank, BoardState, word, home, seat, fresh, own_at, announced, IsHome, RecordState, HasObject, IsOpened, IsSession, IsMaker, AreTrue, pieces_in, IsOfSession, HasPieces, ArePresent, calls_known, IsInTime, IsOrderly}
-use Rattle.publication.specs.Sleep.{Sleep}
-use Rattle.publication.specs.StepKinds.{as_combiner, with_pieces, with_sleep}
+use Rattle.publication.specs.StepKinds.{as_combiner, with_pieces}
 use Rattle.publication.specs.declared.piece.Piece.{Piece}
 use Rattle.publication.specs.declared.view.View.{View}
 use Rattle.publication.specs.declared.slot.Load.{Load}
@@ -36,11 +35,11 @@ module _ {C : Type 0} where
   IsNothingOpened c = (j : ℕ) (call : C) → get_elem? c.opened j ≢ opt.some (Some call)
 
 module _ {O C R : Type 0} {obj : Ghosts O C R} where
-  -- Seat k, with view v, changes word x, slot x, its front, its combiner's part, its listing, and what it knows of pieces and of sleep.
-  module _ (s : BoardState O C R) (o : IsOrderly obj s) (k : ℕ) (v : View C R) (x n : ℕ) (at : opt.Option (SlotValue O C R)) (front : List (Entry C R)) (d : Combiner C) (l : Listing) (q : Taken) (z : Sleep) (me : get_elem? s.views k ≡ opt.some v) (mine : 0 < k) where
+  -- Seat k, with view v, changes word x, slot x, its front, its combiner's part, its listing and what it knows of pieces.
+  module _ (s : BoardState O C R) (o : IsOrderly obj s) (k : ℕ) (v : View C R) (x n : ℕ) (at : opt.Option (SlotValue O C R)) (front : List (Entry C R)) (d : Combiner C) (l : Listing) (q : Taken) (me : get_elem? s.views k ≡ opt.some v) (mine : 0 < k) where
     -- The combiner's view after the step.
     abbrev u : View C R
-    u = with_sleep (with_pieces (as_combiner v front d l) q) z
+    u = with_pieces (as_combiner v front d l) q
 
     -- The board after the step.
     abbrev after : BoardState O C R

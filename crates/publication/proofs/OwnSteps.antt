@@ -14,7 +14,7 @@ use Rattle.publication.specs.StepKinds.{Seated, asked, opened_in}
 use Rattle.publication.specs.BoardHistory.{history_of}
 use Rattle.publication.specs.PublishedRecords.{Published, HasCallPending, HoldsNothing, IsPublished, IsServedFurther, IsPublishedOrCollected}
 use Rattle.publication.specs.PublishedRecords.Published.{nothing, waiting, opened, answered}
-use Rattle.publication.specs.Runs.{StepName, start, post, look_at_head, link, enlist, look_for_reply, take_reply, look_at_lock, seize, release, walk, walk_on, unlink, mark_out, relink, look_at_record, open_record, lay, pick, answer_record, put_back, enter, learn, compare, retire, leave, drowse, kind_of, StepRequires, IsStep}
+use Rattle.publication.specs.Runs.{StepName, start, post, look_at_head, link, enlist, look_for_reply, take_reply, look_at_lock, seize, release, walk, walk_on, unlink, mark_out, relink, look_at_record, open_record, lay, pick, answer_record, put_back, enter, learn, compare, retire, leave, kind_of, StepRequires, IsStep}
 use Rattle.publication.specs.declared.view.View.{View}
 use Rattle.publication.specs.declared.slot.SlotValue.{SlotValue}
 use Rattle.publication.proofs.Lists.{at_there, there_at}
@@ -72,7 +72,6 @@ module _ {O C R : Type 0} where
     own_change compare asks told = unmoved compare told.0 (λ call reply e. absurd (cc e))
     own_change retire asks told = entered asks (ap (λ (x : Seated O C R). x.0.own.pending) told)
     own_change leave asks told = entered asks.0 (ap (λ (x : Seated O C R). x.0.own.pending) told)
-    own_change (drowse x) asks told = calm (drowse x) _ _ told.0 refl refl (λ call reply e. absurd (cc e))
 
 module _ {O C R : Type 0} {obj : Ghosts O C R} where
   module _ (name : StepName C R) (s t : BoardState O C R) (r : IsRuled obj s) (q : IsRuled obj t) (c : IsStep obj name s t) (j : ℕ) (here : c.id ≡ j) (some : 0 < j) (named : (seat s j).number ≡ j) where

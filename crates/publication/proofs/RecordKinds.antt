@@ -63,7 +63,7 @@ module _ {O C R : Type 0} {obj : Ghosts O C R} where
         → ((k : ℕ) → k ≢ j → get_elem? d.opened k ≡ get_elem? v.combiner.opened k) → ((k : ℕ) → 0 < k → k ≢ j → v.combiner.hand ≢ k)
         → ((call : C) → get_elem? d.opened j ≡ opt.some (Some call) → (n ≡ BUSY) × ((floor : ℕ) × ((own_at o.owns j).pending ≡ Some (asks call floor))) × (d.hand ≢ j → at ≡ opt.some Empty))
         → (n ≡ BUSY → (call : C) × (get_elem? d.opened j ≡ opt.some (Some call)))
-        → RecordState o.history j n at (own_at o.owns j) → IsRecordStep s o i v j n at v.front d v.listing v.pieces v.sleep me some_number o.history
+        → RecordState o.history j n at (own_at o.owns j) → IsRecordStep s o i v j n at v.front d v.listing v.pieces me some_number o.history
     same_history n at d still as_wide others hands new_open new_busy stands = record {
       has = has;
       still = still;
@@ -126,7 +126,7 @@ module _ {O C R : Type 0} {obj : Ghosts O C R} where
     )
 
     look_goes : (more : List (ℕ × SlotValue O C R)) → Goes obj s j i (v, more) (looks_at j (v, more)) (word s j)
-    look_goes more = (v, refl, keeps, tt, unmoved s o l j i v me, (refl, entered))
+    look_goes more = (v, keeps, tt, unmoved s o l j i v me, (refl, entered))
 
     -- open
 
@@ -134,7 +134,7 @@ module _ {O C R : Type 0} {obj : Ghosts O C R} where
       now_open : get_elem? (set v.combiner.opened j (Some call)) j ≡ opt.some (Some call)
       now_open = set_here v.combiner.opened j (Some call) (omega arith)
 
-      open_step : v.combiner.hand ≡ 0 → IsRecordStep s o i v j BUSY opt.none v.front (combiner v.combiner true (set v.combiner.opened j (Some call)) j) v.listing v.pieces v.sleep me some_number o.history
+      open_step : v.combiner.hand ≡ 0 → IsRecordStep s o i v j BUSY opt.none v.front (combiner v.combiner true (set v.combiner.opened j (Some call)) j) v.listing v.pieces me some_number o.history
       open_step empty = same_history BUSY opt.none (combiner v.combiner true (set v.combiner.opened j (Some call)) j) refl (length-set v.combiner.opened j (Some call))
           (λ k ne. set_else v.combiner.opened j k (Some call) ne)
           (λ k some ne e. absurd (omega arith))
@@ -168,18 +168,17 @@ module _ {O C R : Type 0} {obj : Ghosts O C R} where
       open_won : (more : List (ℕ × SlotValue O C R)) → v.combiner.hand ≡ 0 → word s j ≡ POSTED → Goes obj s j i (v, more) (opens_record j (v, more)) BUSY
       open_won more empty hit = (
         opening v j call,
-        refl,
         takes j (PostedCall call),
         at_home s.homes j (PostedCall call) f.asked,
         record {
-          records = combined s o i v j BUSY opt.none v.front (combiner v.combiner true (set v.combiner.opened j (Some call)) j) v.listing v.pieces v.sleep me some_number o.history (open_step empty);
+          records = combined s o i v j BUSY opt.none v.front (combiner v.combiner true (set v.combiner.opened j (Some call)) j) v.listing v.pieces me some_number o.history (open_step empty);
           list = still_listed BUSY opt.none v.front (combiner v.combiner true (set v.combiner.opened j (Some call)) j) (as_pending POSTED hit BUSY (λ b. refl));
         },
         ((λ _. (call, refl, opened_now hit)), λ miss. absurd (miss hit)),
       )
 
     open_lost : (more : List (ℕ × SlotValue O C R)) → word s j ≢ POSTED → Goes obj s j i (v, more) (opens_record j (v, more)) (word s j)
-    open_lost more miss = (v, refl, keeps, tt, unmoved s o l j i v me, ((λ hit. absurd (miss hit)), λ _. (refl, entered miss)))
+    open_lost more miss = (v, keeps, tt, unmoved s o l j i v me, ((λ hit. absurd (miss hit)), λ _. (refl, entered miss)))
 
     open_goes : (more : List (ℕ × SlotValue O C R)) → v.combiner.hand ≡ 0 → Goes obj s j i (v, more) (opens_record j (v, more)) (either (eqb (word s j) POSTED) BUSY (word s j))
     open_goes more empty = exchanged (word s j) POSTED BUSY (Goes obj s j i (v, more) (opens_record j (v, more)))
@@ -204,7 +203,7 @@ module _ {O C R : Type 0} {obj : Ghosts O C R} where
       )
 
       hand_step : (at : opt.Option (SlotValue O C R)) (hand : ℕ) → (hand ≢ j → at ≡ opt.some Empty) → ((k : ℕ) → 0 < k → k ≢ j → v.combiner.hand ≢ k)
-          → IsRecordStep s o i v j (word s j) at v.front (combiner v.combiner true v.combiner.opened hand) v.listing v.pieces v.sleep me some_number o.history
+          → IsRecordStep s o i v j (word s j) at v.front (combiner v.combiner true v.combiner.opened hand) v.listing v.pieces me some_number o.history
       hand_step at hand empty_slot hands = same_history (word s j) at (combiner v.combiner true v.combiner.opened hand) refl refl (λ k ne. refl) hands (still_open at hand empty_slot)
           (λ _. (call, shown))
           (busy call was.call_of.0 record { is = was.is_busy; some = busy_is.some; early = busy_is.early; publishes = busy_is.publishes; calls = busy_is.calls })
@@ -212,11 +211,10 @@ module _ {O C R : Type 0} {obj : Ghosts O C R} where
       lay_goes : (more : List (ℕ × SlotValue O C R)) → v.combiner.hand ≡ j → Goes obj s j i (v, (j, Empty) ∷ more) (lays (step o.slots (word_of j) 0 0 opt.none) (v, (j, Empty) ∷ more)) (word s j)
       lay_goes more held = (
         in_hand v 0,
-        refl,
         gives,
         tt,
         record {
-          records = combined s o i v j (word s j) (opt.some Empty) v.front (combiner v.combiner true v.combiner.opened 0) v.listing v.pieces v.sleep me some_number o.history
+          records = combined s o i v j (word s j) (opt.some Empty) v.front (combiner v.combiner true v.combiner.opened 0) v.listing v.pieces me some_number o.history
               (hand_step (opt.some Empty) 0 (λ away. refl) (λ k some ne e. ne (sym e ∙ held)));
           list = still_listed (word s j) (opt.some Empty) v.front (combiner v.combiner true v.combiner.opened 0) (λ b. refl);
         },
@@ -226,11 +224,10 @@ module _ {O C R : Type 0} {obj : Ghosts O C R} where
       pick_goes : (more : List (ℕ × SlotValue O C R)) → v.combiner.hand ≡ 0 → Goes obj s j i (v, more) (picks_slot j (v, more)) (word s j)
       pick_goes more empty = (
         in_hand v j,
-        refl,
         takes j Empty,
         at_home s.homes j Empty (was.empty_slot (λ e. omega arith)),
         record {
-          records = combined s o i v j (word s j) opt.none v.front (combiner v.combiner true v.combiner.opened j) v.listing v.pieces v.sleep me some_number o.history
+          records = combined s o i v j (word s j) opt.none v.front (combiner v.combiner true v.combiner.opened j) v.listing v.pieces me some_number o.history
               (hand_step opt.none j (λ away. absurd (away refl)) (λ k some ne e. absurd (omega arith)));
           list = still_listed (word s j) opt.none v.front (combiner v.combiner true v.combiner.opened j) (λ b. refl);
         },
@@ -250,7 +247,7 @@ module _ {O C R : Type 0} {obj : Ghosts O C R} where
       abbrev put_back : Combiner C
       put_back = record { has_object = true; opened = set v.combiner.opened j None; hand = 0; put_backs = v.combiner.put_backs + 1; entered = v.combiner.entered }
 
-      put_back_step : v.combiner.hand ≡ j → IsRecordStep s o i v j POSTED (opt.some (PostedCall call)) v.front put_back v.listing v.pieces v.sleep me some_number o.history
+      put_back_step : v.combiner.hand ≡ j → IsRecordStep s o i v j POSTED (opt.some (PostedCall call)) v.front put_back v.listing v.pieces me some_number o.history
       put_back_step held = same_history POSTED (opt.some (PostedCall call)) put_back refl (length-set v.combiner.opened j None)
           (λ k ne. set_else v.combiner.opened j k None ne) (λ k some ne e. ne (sym e ∙ held)) (λ c there. absurd (no_more c there)) (λ two. absurd (omega arith))
           (posted call was.call_of.0 record { is = refl; some = busy_is.some; asked = refl; early = busy_is.early; publishes = busy_is.publishes; calls = busy_is.calls })
@@ -259,11 +256,10 @@ module _ {O C R : Type 0} {obj : Ghosts O C R} where
           → Goes obj s j i (v, (j, PostedCall call) ∷ more) (λ _. puts_back (step o.slots (word_of j) POSTED 0 opt.none) (v, (j, PostedCall call) ∷ more) POSTED) POSTED
       put_back_goes more held = (
         putting_back v j,
-        refl,
         gives,
         tt,
         record {
-          records = combined s o i v j POSTED (opt.some (PostedCall call)) v.front put_back v.listing v.pieces v.sleep me some_number o.history (put_back_step held);
+          records = combined s o i v j POSTED (opt.some (PostedCall call)) v.front put_back v.listing v.pieces me some_number o.history (put_back_step held);
           list = still_listed POSTED (opt.some (PostedCall call)) v.front put_back (as_pending BUSY was.is_busy POSTED (λ b. refl));
         },
         ap (λ (k : ℕ). (putting_back v k, more)) (sym held),
@@ -288,7 +284,7 @@ module _ {O C R : Type 0} {obj : Ghosts O C R} where
           calls = calls-mine j v.front call reply ∙ ap (λ (cs : List (Answered C R)). cs ++ answer (length v.front) call reply ∷ []) (ap (calls_of j) object.whole ∙ busy_is.calls);
         }
 
-        answer_step : v.combiner.hand ≡ j → IsRecordStep s o i v j SERVED (opt.some (ServedReply (length v.front) reply)) longer cleared v.listing v.pieces v.sleep me some_number longer
+        answer_step : v.combiner.hand ≡ j → IsRecordStep s o i v j SERVED (opt.some (ServedReply (length v.front) reply)) longer cleared v.listing v.pieces me some_number longer
         answer_step held = record {
           has = has;
           still = refl;
@@ -327,11 +323,10 @@ module _ {O C R : Type 0} {obj : Ghosts O C R} where
             → Goes obj s j i (v, (j, ServedReply (length v.front) reply) ∷ more) (λ _. answers obj (step o.slots (word_of j) SERVED 0 opt.none) (v, (j, ServedReply (length v.front) reply) ∷ more) SERVED) SERVED
         answer_goes more held = (
           answering v j (call_at obj v j) reply,
-          refl,
           gives,
           tt,
           rw call_is (record {
-            records = combined s o i v j SERVED (opt.some (ServedReply (length v.front) reply)) longer cleared v.listing v.pieces v.sleep me some_number longer (answer_step held);
+            records = combined s o i v j SERVED (opt.some (ServedReply (length v.front) reply)) longer cleared v.listing v.pieces me some_number longer (answer_step held);
             list = still_listed SERVED (opt.some (ServedReply (length v.front) reply)) longer cleared (as_pending BUSY was.is_busy SERVED (λ b. refl));
           }),
           (ap (λ (k : ℕ). (answering v k (call_at obj v k) reply, more)) (sym held), rw call_is account_after),
@@ -347,14 +342,14 @@ module _ {C R : Type 0} where
       -- Look at record keeps the rule.
       pub look_at_record_kept : (more : List (ℕ × SlotValue O C R)) → Allows (IsBounded obj bound) slots id (v, more) (word_of j) (λ n. n) (looks_at_record (step slots (word_of j) 0 0 opt.none) (v, more))
       look_at_record_kept more = subst (λ (k : ℕ). Allows (IsBounded obj bound) slots id (v, more) (word_of j) (λ n. n) (looks_at k (v, more))) (sym (session_of_its_word j))
-          (seated slots id v.number j v more (λ n. n) (looks_at j (v, more)) refl some_number (λ _ n ne. ne)
+          (seated slots id v.number j v more (λ n. n) (looks_at j (v, more)) refl some_number
           (λ s o l me small wide e. look_goes v.number v refl some_number s o l me small has j some_record (omega arith) wide more))
 
       -- Open keeps the rule, for a combiner with no slot in hand.
       pub open_kept : (more : List (ℕ × SlotValue O C R)) → v.combiner.hand ≡ 0
           → Allows (IsBounded obj bound) slots id (v, more) (word_of j) (λ n. either (eqb n POSTED) BUSY n) (opens (step slots (word_of j) POSTED BUSY opt.none) (v, more))
       open_kept more empty = subst (λ (k : ℕ). Allows (IsBounded obj bound) slots id (v, more) (word_of j) (λ n. either (eqb n POSTED) BUSY n) (opens_record k (v, more))) (sym (session_of_its_word j))
-          (seated slots id v.number j v more (λ n. either (eqb n POSTED) BUSY n) (opens_record j (v, more)) refl some_number (λ e. absurd (omega (arith, e, some_record)))
+          (seated slots id v.number j v more (λ n. either (eqb n POSTED) BUSY n) (opens_record j (v, more)) refl some_number
           (λ s o l me small wide e. open_goes v.number v refl some_number s o l me small has j some_record (omega arith) wide more empty))
 
     module _ {O : Type 0} where
@@ -362,19 +357,19 @@ module _ {C R : Type 0} where
         module _ {obj : Ghosts O C R} {bound : Bounds} where
           -- Lay keeps the rule, with record j's slot in hand and empty.
           pub lay_kept : v.combiner.hand ≡ j → Allows (IsBounded obj bound) slots id (v, (j, Empty) ∷ more) (word_of j) (λ n. n) (lays (step slots (word_of j) 0 0 opt.none) (v, (j, Empty) ∷ more))
-          lay_kept held = seated slots id v.number j v ((j, Empty) ∷ more) (λ n. n) (lays (step slots (word_of j) 0 0 opt.none) (v, (j, Empty) ∷ more)) refl some_number (λ _ n ne. ne)
+          lay_kept held = seated slots id v.number j v ((j, Empty) ∷ more) (λ n. n) (lays (step slots (word_of j) 0 0 opt.none) (v, (j, Empty) ∷ more)) refl some_number
               (λ s o l me small wide e. lay_goes v.number v refl some_number s o l me small has j some_record (omega arith) wide call shown more held)
 
           -- Pick keeps the rule, for a combiner with no slot in hand.
           pub pick_kept : v.combiner.hand ≡ 0 → Allows (IsBounded obj bound) slots id (v, more) (word_of j) (λ n. n) (picks (step slots (word_of j) 0 0 opt.none) (v, more))
           pick_kept empty = subst (λ (k : ℕ). Allows (IsBounded obj bound) slots id (v, more) (word_of j) (λ n. n) (picks_slot k (v, more))) (sym (session_of_its_word j))
-              (seated slots id v.number j v more (λ n. n) (picks_slot j (v, more)) refl some_number (λ _ n ne. ne)
+              (seated slots id v.number j v more (λ n. n) (picks_slot j (v, more)) refl some_number
               (λ s o l me small wide e. pick_goes v.number v refl some_number s o l me small has j some_record (omega arith) wide call shown more empty))
 
           -- Put back keeps the rule, with the call in record j's slot in hand.
           pub put_back_kept : v.combiner.hand ≡ j
               → Allows (IsBounded obj bound) slots id (v, (j, PostedCall call) ∷ more) (word_of j) (λ _. POSTED) (λ _. puts_back (step slots (word_of j) POSTED 0 opt.none) (v, (j, PostedCall call) ∷ more) POSTED)
-          put_back_kept held = seated slots id v.number j v ((j, PostedCall call) ∷ more) (λ _. POSTED) (λ _. puts_back (step slots (word_of j) POSTED 0 opt.none) (v, (j, PostedCall call) ∷ more) POSTED) refl some_number (λ e. absurd (omega (arith, e, some_record)))
+          put_back_kept held = seated slots id v.number j v ((j, PostedCall call) ∷ more) (λ _. POSTED) (λ _. puts_back (step slots (word_of j) POSTED 0 opt.none) (v, (j, PostedCall call) ∷ more) POSTED) refl some_number
               (λ s o l me small wide e. put_back_goes v.number v refl some_number s o l me small has j some_record (omega arith) wide call shown more held)
 
           -- Answer keeps the rule, with a reply in record j's slot in hand that makes the history a longer legal one.
@@ -382,5 +377,5 @@ module _ {C R : Type 0} where
               → Allows (IsBounded obj bound) slots id (v, (j, ServedReply place reply) ∷ more) (word_of j) (λ _. SERVED) (λ _. answers obj (step slots (word_of j) SERVED 0 opt.none) (v, (j, ServedReply place reply) ∷ more) SERVED)
           answer_kept place reply held here legal short =
               subst (λ (p : ℕ). Allows (IsBounded obj bound) slots id (v, (j, ServedReply p reply) ∷ more) (word_of j) (λ _. SERVED) (λ _. answers obj (step slots (word_of j) SERVED 0 opt.none) (v, (j, ServedReply p reply) ∷ more) SERVED)) (sym here)
-              (seated slots id v.number j v ((j, ServedReply (length v.front) reply) ∷ more) (λ _. SERVED) (λ _. answers obj (step slots (word_of j) SERVED 0 opt.none) (v, (j, ServedReply (length v.front) reply) ∷ more) SERVED) refl some_number (λ e. absurd (omega (arith, e, some_record)))
+              (seated slots id v.number j v ((j, ServedReply (length v.front) reply) ∷ more) (λ _. SERVED) (λ _. answers obj (step slots (word_of j) SERVED 0 opt.none) (v, (j, ServedReply (length v.front) reply) ∷ more) SERVED) refl some_number
               (λ s o l me small wide e. answer_goes v.number v refl some_number s o l me small has j some_record (omega arith) wide call shown reply legal short more held))

@@ -7,12 +7,12 @@ use Rattle.std.proofs.Math.Seq.{take-length}
 use mathlib.Core.Option as opt
 use prog.Atomic.{either}
 use lib.ListN.{get_elem?}
-use Rattle.atomic_table.specs.Table.{Act, keeps, takes, gives, Valid, carried_after, homes_after, stepped, step, Allows}
+use Rattle.atomic_table.specs.Table.{Act, keeps, takes, gives, Valid, carried_after, stepped, step, Allows}
 use Rattle.atomic_table.proofs.Lists.{exchanged, set_again}
 use Rattle.sequential.specs.declared.entry.Entry.{Entry}
 use Rattle.sequential.specs.Histories.{Answered, calls_of}
 use Rattle.sequential.specs.Linearizable.{Event, invocation, response}
-use Rattle.publication.specs.Words.{word_of, sleep_of, FREE, OUT, POSTED, SERVED, CLOSED, EMPTY}
+use Rattle.publication.specs.Words.{word_of, OUT, POSTED, SERVED, CLOSED, EMPTY}
 use Rattle.publication.specs.Views.{Own, entry, answer, asks}
 use Rattle.publication.specs.Rule.{blank, BoardState, word, home, seat, own_at, announced, IsVacant, IsServed, RecordState, call_of, IsOrderly}
 use Rattle.publication.specs.Rule.RecordState.{vacant, posted, retired}
@@ -26,7 +26,6 @@ use Rattle.publication.proofs.SeatViews.{session_of, front_of, heard_few, whole_
 use Rattle.publication.proofs.Histories.{legal-begins, length-begins, calls-cut, calls-fewer}
 use Rattle.publication.proofs.RecordStates.{vacant_word, at_most_one, is_vacant, is_served, is_waiting, left, leaves_record, lacks, idle_announced, waits_announced}
 use Rattle.publication.proofs.LaidDown.{Fits, valid_of, stays_home}
-use Rattle.publication.proofs.SleepRule.{homes_long, held_on, sleepers_kept}
 use Rattle.publication.proofs.UnchangedList.{links_kept, aside, same_walk}
 use Rattle.publication.proofs.OrderlySession.{IsOwnStep, moved}
 use Rattle.publication.proofs.InTime.{same_known, invokes, responds}
@@ -41,10 +40,9 @@ module _ {O C R : Type 0} {obj : Ghosts O C R} where
       (subst (λ (vs : List (View C R)). IsRuled obj record { words = s.words; homes = s.homes; views = vs }) (sym (set_again s.views id v me)) (record { records = o; list = l }))
 
 module _ {O C R : Type 0} (obj : Ghosts O C R) where
-  -- Seat `id`, in state m, has a step on state word i that keeps the rule, leaves k in the word, lays down no load, knows the same of
-  -- sleep, and says `then`.
+  -- Seat `id`, in state m, has a step on state word i that keeps the rule, leaves k in the word, lays down no load, and says `then`.
   abbrev pub Goes : BoardState O C R → ℕ → ℕ → Seated O C R → (ℕ → Seated O C R → Type 0) → ℕ → Type 0
-  Goes s i id m then k = (w : View C R) × (w.sleep ≡ m.0.sleep) × (a : Act (SlotValue O C R)) × Fits s.homes m.1 a × IsRuled obj (stepped s (word_of i) k id m.1 w a) × then (word s i) (w, carried_after m.1 a)
+  Goes s i id m then k = (w : View C R) × (a : Act (SlotValue O C R)) × Fits s.homes m.1 a × IsRuled obj (stepped s (word_of i) k id m.1 w a) × then (word s i) (w, carried_after m.1 a)
 
 module _ {O C R : Type 0} {obj : Ghosts O C R} where
   -- Session i has seat i.
@@ -56,53 +54,47 @@ module _ {O C R : Type 0} {obj : Ghosts O C R} where
 module _ {O C R : Type 0} (obj : Ghosts O C R) where
   -- Like `Goes`, for the word at index p, which may be a link word.
   abbrev pub GoesAt : BoardState O C R → ℕ → ℕ → Seated O C R → (ℕ → Seated O C R → Type 0) → ℕ → Type 0
-  GoesAt s p id m then k = (w : View C R) × (w.sleep ≡ m.0.sleep) × (a : Act (SlotValue O C R)) × Fits s.homes m.1 a × IsRuled obj (stepped s p k id m.1 w a) × then (get_or s.words p 0) (w, carried_after m.1 a)
+  GoesAt s p id m then k = (w : View C R) × (a : Act (SlotValue O C R)) × Fits s.homes m.1 a × IsRuled obj (stepped s p k id m.1 w a) × then (get_or s.words p 0) (w, carried_after m.1 a)
 
 module _ {O C R : Type 0} {obj : Ghosts O C R} {bound : Bounds} where
-  -- A step that lays down no load leaves an object at home that was there. If it is on no sleep word, and doesn't free the lock word,
-  -- no sleeper is forgotten.
-  bounded : (s : BoardState O C R) (p id : ℕ) (m : Seated O C R) (then : Seated O C R → Type 0) (k : ℕ) → IsBounded obj bound s → get_elem? s.views id ≡ opt.some m.0
-      → ((j : ℕ) → sleep_of j ≢ p) → (p ≡ 0 → get_or s.words p 0 ≢ FREE → k ≢ FREE)
-      → (w : View C R) × (w.sleep ≡ m.0.sleep) × (a : Act (SlotValue O C R)) × Fits s.homes m.1 a × IsRuled obj (stepped s p k id m.1 w a) × then (w, carried_after m.1 a)
+  -- A step that lays down no load leaves an object at home that was there.
+  bounded : (s : BoardState O C R) (p id : ℕ) (m : Seated O C R) (then : Seated O C R → Type 0) (k : ℕ) → IsBounded obj bound s
+      → (w : View C R) × (a : Act (SlotValue O C R)) × Fits s.homes m.1 a × IsRuled obj (stepped s p k id m.1 w a) × then (w, carried_after m.1 a)
       → (w : View C R) × (a : Act (SlotValue O C R)) × Valid s.homes m.1 a × IsBounded obj bound (stepped s p k id m.1 w a) × then (w, carried_after m.1 a)
-  bounded s p id m then k b me aside held g = (
+  bounded s p id m then k b g = (
     g.0,
-    g.2,
-    valid_of s.homes m.1 g.2 g.3,
-    record {
-      ruled = g.4;
-      within = λ load there. b.within load (stays_home s.homes m.1 g.2 g.3 load there);
-      sleepers = sleepers_kept s id m.0 g.0 (set s.words p k) (homes_after s.homes m.1 g.2) me b.sleepers g.1 (homes_long s.homes m.1 g.2) (λ j. get_or-set_other s.words p (sleep_of j) k 0 (aside j)) (held_on s.words p k held);
-    },
-    g.5,
+    g.1,
+    valid_of s.homes m.1 g.1 g.2,
+    record { ruled = g.3; within = λ load there. b.within load (stays_home s.homes m.1 g.1 g.2 load there) },
+    g.4,
   )
 
   -- A step of session i's seat, which is seat i.
-  pub seated_at : (slots id i p : ℕ) (v : View C R) (more : List (ℕ × SlotValue O C R)) (f : ℕ → ℕ) (then : ℕ → Seated O C R → Type 0) → v.number ≡ i → 0 < i → ((j : ℕ) → sleep_of j ≢ p) → (p ≡ 0 → (n : ℕ) → n ≢ FREE → f n ≢ FREE)
+  pub seated_at : (slots id i p : ℕ) (v : View C R) (more : List (ℕ × SlotValue O C R)) (f : ℕ → ℕ) (then : ℕ → Seated O C R → Type 0) → v.number ≡ i → 0 < i
       → ((s : BoardState O C R) (o : IsOrderly obj s) (l : IsLinked s) → get_elem? s.views i ≡ opt.some v → i < o.slots → o.slots ≡ slots → GoesAt obj s p i (v, more) then (f (get_or s.words p 0)))
       → Allows (IsBounded obj bound) slots id (v, more) p f then
-  seated_at slots id i p v more f then is some_number aside held goes s b wide me _ =
+  seated_at slots id i p v more f then is some_number goes s b wide me _ =
       let r = b.ruled in
       let o = r.records in
       let t = named s o id i v me is some_number in
-      bounded s p id (v, more) (then (get_or s.words p 0)) (f (get_or s.words p 0)) b me aside (λ e. held e (get_or s.words p 0))
+      bounded s p id (v, more) (then (get_or s.words p 0)) (f (get_or s.words p 0)) b
       (subst (λ (k : ℕ). GoesAt obj s p k (v, more) then (f (get_or s.words p 0))) (sym t.0) (goes s o r.list (subst (λ (k : ℕ). get_elem? s.views k ≡ opt.some v) t.0 me) t.1 (sym o.homes_are ∙ wide)))
 
   -- Like `seated_at`, for the state word of record x, given how many entries the object at home keeps.
-  pub seated_within : (slots id i x : ℕ) (v : View C R) (more : List (ℕ × SlotValue O C R)) (f : ℕ → ℕ) (then : ℕ → Seated O C R → Type 0) → v.number ≡ i → 0 < i → (x ≡ 0 → (n : ℕ) → n ≢ FREE → f n ≢ FREE)
+  pub seated_within : (slots id i x : ℕ) (v : View C R) (more : List (ℕ × SlotValue O C R)) (f : ℕ → ℕ) (then : ℕ → Seated O C R → Type 0) → v.number ≡ i → 0 < i
       → ((s : BoardState O C R) (b : IsBounded obj bound s) → get_elem? s.views i ≡ opt.some v → i < b.ruled.records.slots → length v.combiner.opened ≡ b.ruled.records.slots → b.ruled.records.slots ≡ slots → Goes obj s x i (v, more) then (f (word s x)))
       → Allows (IsBounded obj bound) slots id (v, more) (word_of x) f then
-  seated_within slots id i x v more f then is some_number held goes s b wide me _ =
+  seated_within slots id i x v more f then is some_number goes s b wide me _ =
       let o = b.ruled.records in
       let t = named s o id i v me is some_number in
-      bounded s (word_of x) id (v, more) (then (word s x)) (f (word s x)) b me (λ j e. omega (arith, e)) (λ e. held (omega (arith, e)) (word s x))
+      bounded s (word_of x) id (v, more) (then (word s x)) (f (word s x)) b
       (subst (λ (k : ℕ). Goes obj s x k (v, more) then (f (word s x))) (sym t.0) (goes s b (subst (λ (k : ℕ). get_elem? s.views k ≡ opt.some v) t.0 me) t.1 t.2 (sym o.homes_are ∙ wide)))
 
   -- Like `seated_at`, for the state word of record x.
-  pub seated : (slots id i x : ℕ) (v : View C R) (more : List (ℕ × SlotValue O C R)) (f : ℕ → ℕ) (then : ℕ → Seated O C R → Type 0) → v.number ≡ i → 0 < i → (x ≡ 0 → (n : ℕ) → n ≢ FREE → f n ≢ FREE)
+  pub seated : (slots id i x : ℕ) (v : View C R) (more : List (ℕ × SlotValue O C R)) (f : ℕ → ℕ) (then : ℕ → Seated O C R → Type 0) → v.number ≡ i → 0 < i
       → ((s : BoardState O C R) (o : IsOrderly obj s) (l : IsLinked s) → get_elem? s.views i ≡ opt.some v → i < o.slots → length v.combiner.opened ≡ o.slots → o.slots ≡ slots → Goes obj s x i (v, more) then (f (word s x)))
       → Allows (IsBounded obj bound) slots id (v, more) (word_of x) f then
-  seated slots id i x v more f then is some_number held goes = seated_within slots id i x v more f then is some_number held (λ s b. goes s b.ruled.records b.ruled.list)
+  seated slots id i x v more f then is some_number goes = seated_within slots id i x v more f then is some_number (λ s b. goes s b.ruled.records b.ruled.list)
 
 module _ {O C R : Type 0} {obj : Ghosts O C R} where
   module _ (i : ℕ) (v : View C R) (is : v.number ≡ i) (some_number : 0 < i) (s : BoardState O C R) (o : IsOrderly obj s) (l : IsLinked s) (me : get_elem? s.views i ≡ opt.some v) (small : i < o.slots) where
@@ -165,7 +157,6 @@ module _ {O C R : Type 0} {obj : Ghosts O C R} where
         → Goes obj s i i (v, more) (starts (step o.slots (word_of i) 0 0 opt.none) (v, more)) (word s i)
     start_goes more unstarted t = (
       started v,
-      refl,
       takes i Empty,
       at_home s.homes i Empty (t.empty_slot unstarted),
       record {
@@ -232,7 +223,6 @@ module _ {O C R : Type 0} {obj : Ghosts O C R} where
         → Goes obj s i i (v, (i, PostedCall call) ∷ more) (posts obj (step o.slots (word_of i) POSTED 0 opt.none) (v, (i, PostedCall call) ∷ more)) POSTED
     post_goes call more t = (
       posting v (log_posted call) call (word s i == EMPTY),
-      refl,
       gives,
       tt,
       record {
@@ -250,7 +240,7 @@ module _ {O C R : Type 0} {obj : Ghosts O C R} where
         (subst (λ (l : List (Answered C R)). length (calls_of i v.front) ≤ length l) (is_waiting stand miss some) (calls-fewer i v.front o.history (front_of s o i v me)))
 
     look_goes : (more : List (ℕ × SlotValue O C R)) → Goes obj s i i (v, more) (looks_for_reply (step o.slots (word_of i) 0 0 opt.none) (v, more)) (word s i)
-    look_goes more = (v, refl, keeps, tt, unmoved s o l i i v me, (refl, unanswered))
+    look_goes more = (v, keeps, tt, unmoved s o l i i v me, (refl, unanswered))
 
     -- take: a record whose call was listed stays on the list, and one whose call wasn't stays off it
 
@@ -327,7 +317,6 @@ module _ {O C R : Type 0} {obj : Ghosts O C R} where
           → Goes obj s i i (v, more) (takes_reply obj (step o.slots (word_of i) SERVED (left_word v.own.listed) opt.none) (v, more)) (left_word v.own.listed)
       take_won fronts more hit = (
         taking v log_taken front call place reply,
-        refl,
         takes i (ServedReply place reply),
         at_home s.homes i (ServedReply place reply) f.replied,
         record {
@@ -342,7 +331,7 @@ module _ {O C R : Type 0} {obj : Ghosts O C R} where
       )
 
     take_lost : (more : List (ℕ × SlotValue O C R)) → word s i ≢ SERVED → Goes obj s i i (v, more) (takes_reply obj (step o.slots (word_of i) SERVED (left_word v.own.listed) opt.none) (v, more)) (word s i)
-    take_lost more miss = (v, refl, keeps, tt, unmoved s o l i i v me, ((λ hit. absurd (miss hit)), λ _. (refl, unanswered miss)))
+    take_lost more miss = (v, keeps, tt, unmoved s o l i i v me, ((λ hit. absurd (miss hit)), λ _. (refl, unanswered miss)))
 
     take_goes : AreFrontsLegal obj → (more : List (ℕ × SlotValue O C R)) → Goes obj s i i (v, more) (takes_reply obj (step o.slots (word_of i) SERVED (left_word v.own.listed) opt.none) (v, more)) (either (eqb (word s i) SERVED) (left_word v.own.listed) (word s i))
     take_goes fronts more = exchanged (word s i) SERVED (left_word v.own.listed) (Goes obj s i i (v, more) (takes_reply obj (step o.slots (word_of i) SERVED (left_word v.own.listed) opt.none) (v, more)))
@@ -372,7 +361,6 @@ module _ {O C R : Type 0} {obj : Ghosts O C R} where
         → Goes obj s i i (v, more) (λ _. retires (step o.slots (word_of i) CLOSED 0 opt.none) (v, more) CLOSED) CLOSED
     retire_goes more has_started t = (
       retiring v,
-      refl,
       keeps,
       tt,
       subst (λ (hs : List (opt.Option (SlotValue O C R))). IsRuled obj record { words = set s.words (word_of i) CLOSED; homes = hs; views = set s.views i (retiring v) }) (set-get_or s.homes i opt.none)
@@ -402,7 +390,6 @@ module _ {O C R : Type 0} {obj : Ghosts O C R} where
         → Goes obj s i i (v, (i, Empty) ∷ more) (leaves (step o.slots (word_of i) 0 0 opt.none) (v, (i, Empty) ∷ more)) (word s i)
     leave_goes more none = (
       leaving v,
-      refl,
       gives,
       tt,
       record {
@@ -419,33 +406,33 @@ module _ {O C R : Type 0} where
       -- Start keeps the rule, for a session that hasn't started.
       pub start_kept : v.own.started ≡ false → v.own.pending ≡ None → v.own.retired ≡ false
           → Allows (IsBounded obj bound) slots id (v, more) (word_of i) (λ n. n) (starts (step slots (word_of i) 0 0 opt.none) (v, more))
-      start_kept unstarted none live = seated slots id i i v more (λ n. n) (starts (step slots (word_of i) 0 0 opt.none) (v, more)) is some_number (λ _ n ne. ne)
+      start_kept unstarted none live = seated slots id i i v more (λ n. n) (starts (step slots (word_of i) 0 0 opt.none) (v, more)) is some_number
           (λ s o l me small wide e. start_goes i v is some_number s o l me small more unstarted (is_vacant (stand i v is some_number s o l me small) none live))
 
       -- Post keeps the rule, for a session that may publish.
       pub post_kept : (call : C) → is_some v.own.pending ≡ false → v.own.retired ≡ false
           → Allows (IsBounded obj bound) slots id (v, (i, PostedCall call) ∷ more) (word_of i) (λ _. POSTED) (posts obj (step slots (word_of i) POSTED 0 opt.none) (v, (i, PostedCall call) ∷ more))
-      post_kept call none live = seated slots id i i v ((i, PostedCall call) ∷ more) (λ _. POSTED) (posts obj (step slots (word_of i) POSTED 0 opt.none) (v, (i, PostedCall call) ∷ more)) is some_number (λ e. absurd (omega (arith, e, some_number)))
+      post_kept call none live = seated slots id i i v ((i, PostedCall call) ∷ more) (λ _. POSTED) (posts obj (step slots (word_of i) POSTED 0 opt.none) (v, (i, PostedCall call) ∷ more)) is some_number
           (λ s o l me small wide e. post_goes i v is some_number s o l me small call more (is_vacant (stand i v is some_number s o l me small) (lacks v.own.pending none) live))
 
       -- Look for reply keeps the rule.
       pub look_kept : Allows (IsBounded obj bound) slots id (v, more) (word_of i) (λ n. n) (looks_for_reply (step slots (word_of i) 0 0 opt.none) (v, more))
-      look_kept = seated slots id i i v more (λ n. n) (looks_for_reply (step slots (word_of i) 0 0 opt.none) (v, more)) is some_number (λ _ n ne. ne)
+      look_kept = seated slots id i i v more (λ n. n) (looks_for_reply (step slots (word_of i) 0 0 opt.none) (v, more)) is some_number
           (λ s o l me small wide e. look_goes i v is some_number s o l me small more)
 
       -- Take keeps the rule.
       pub take_kept : AreFrontsLegal obj → Allows (IsBounded obj bound) slots id (v, more) (word_of i) (λ n. either (eqb n SERVED) (cond v.own.listed EMPTY OUT) n) (takes_reply obj (step slots (word_of i) SERVED (cond v.own.listed EMPTY OUT) opt.none) (v, more))
-      take_kept fronts = seated slots id i i v more (λ n. either (eqb n SERVED) (cond v.own.listed EMPTY OUT) n) (takes_reply obj (step slots (word_of i) SERVED (cond v.own.listed EMPTY OUT) opt.none) (v, more)) is some_number (λ e. absurd (omega (arith, e, some_number)))
+      take_kept fronts = seated slots id i i v more (λ n. either (eqb n SERVED) (cond v.own.listed EMPTY OUT) n) (takes_reply obj (step slots (word_of i) SERVED (cond v.own.listed EMPTY OUT) opt.none) (v, more)) is some_number
           (λ s o l me small wide e. take_goes i v is some_number s o l me small fronts more)
 
       -- Retire keeps the rule, for a session with no call pending.
       pub retire_kept : is_some v.own.pending ≡ false → v.own.retired ≡ false → v.own.started ≡ true
           → Allows (IsBounded obj bound) slots id (v, more) (word_of i) (λ _. CLOSED) (λ _. retires (step slots (word_of i) CLOSED 0 opt.none) (v, more) CLOSED)
-      retire_kept none live has_started = seated slots id i i v more (λ _. CLOSED) (λ _. retires (step slots (word_of i) CLOSED 0 opt.none) (v, more) CLOSED) is some_number (λ e. absurd (omega (arith, e, some_number)))
+      retire_kept none live has_started = seated slots id i i v more (λ _. CLOSED) (λ _. retires (step slots (word_of i) CLOSED 0 opt.none) (v, more) CLOSED) is some_number
           (λ s o l me small wide e. retire_goes i v is some_number s o l me small more has_started (is_vacant (stand i v is some_number s o l me small) (lacks v.own.pending none) live))
 
       -- Leave keeps the rule, for a session with no call pending.
       pub leave_kept : is_some v.own.pending ≡ false
           → Allows (IsBounded obj bound) slots id (v, (i, Empty) ∷ more) (word_of i) (λ n. n) (leaves (step slots (word_of i) 0 0 opt.none) (v, (i, Empty) ∷ more))
-      leave_kept none = seated slots id i i v ((i, Empty) ∷ more) (λ n. n) (leaves (step slots (word_of i) 0 0 opt.none) (v, (i, Empty) ∷ more)) is some_number (λ _ n ne. ne)
+      leave_kept none = seated slots id i i v ((i, Empty) ∷ more) (λ n. n) (leaves (step slots (word_of i) 0 0 opt.none) (v, (i, Empty) ∷ more)) is some_number
           (λ s o l me small wide e. leave_goes i v is some_number s o l me small more (lacks v.own.pending none))

@@ -12,7 +12,7 @@ use Rattle.publication.specs.Views.{Pending, Handed, answer}
 use Rattle.publication.specs.Rule.{blank, BoardState, seat}
 use Rattle.publication.specs.StepKinds.{Seated, joined, handed_in, gathered}
 use Rattle.publication.specs.Collected.{IsSeated, IsHandedIn, HasCollected}
-use Rattle.publication.specs.Runs.{StepName, start, post, look_at_head, link, enlist, look_for_reply, take_reply, look_at_lock, seize, release, walk, walk_on, unlink, mark_out, relink, look_at_record, open_record, lay, pick, answer_record, put_back, enter, learn, compare, retire, leave, drowse, kind_of, IsStep, IsSeatSplit, IsSeatJoin, IsMove, IsRun, stop, move}
+use Rattle.publication.specs.Runs.{StepName, start, post, look_at_head, link, enlist, look_for_reply, take_reply, look_at_lock, seize, release, walk, walk_on, unlink, mark_out, relink, look_at_record, open_record, lay, pick, answer_record, put_back, enter, learn, compare, retire, leave, kind_of, IsStep, IsSeatSplit, IsSeatJoin, IsMove, IsRun, stop, move}
 use Rattle.publication.specs.declared.view.View.{View}
 use Rattle.publication.specs.declared.slot.SlotValue.{SlotValue}
 use Rattle.publication.proofs.Lists.{at_there, each_set, each_snoc, past_end, prefix_self, prefix_trans}
@@ -93,7 +93,6 @@ module _ {O C R : Type 0} where
       follows compare slots at first second found told = same told.0
       follows retire slots at first second found told = calmly _ _ told refl refl refl
       follows leave slots at first second found told = calmly _ _ told refl refl refl
-      follows (drowse x) slots at first second found told = calmly _ _ told.0 refl refl refl
 
 module _ {C R : Type 0} where
   -- From the seats to the session.

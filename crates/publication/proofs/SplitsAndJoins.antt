@@ -8,7 +8,6 @@ use Rattle.atomic_table.specs.Table.{Splits, Joins}
 use Rattle.sequential.specs.declared.entry.Entry.{Entry}
 use Rattle.sequential.specs.Linearizable.{Event}
 use Rattle.publication.specs.Pieces.{pieces_of}
-use Rattle.publication.specs.Sleep.{Sleep, taking_over}
 use Rattle.publication.specs.Views.{Own, Handed, Others}
 use Rattle.publication.specs.Rule.{blank, BoardState, word, home, seat, own_at, announced, RecordState, IsSession, IsMaker, IsHanded, AreTrue, HasPieces, ArePresent, IsOrderly}
 use Rattle.publication.specs.List.{belongs, IsLinked, IsRuled}
@@ -29,22 +28,22 @@ use Rattle.sequential.specs.declared.object.Sequential.{Ghosts}
 
 module _ {C R : Type 0} where
   -- A seat that learned more is still the seat that makes the sessions, if it was.
-  makes_on : (slots seats : ℕ) (v : View C R) (front : List (Entry C R)) (heard : List ℕ) (others : Others C R) (z : Sleep) → IsMaker slots seats v → IsMaker slots seats (as_hearer v front heard others z)
-  makes_on slots seats v front heard others z t = record { slots_are = t.slots_are; number = t.number; none = t.none; there = t.there; some_slot = t.some_slot; made = t.made }
+  makes_on : (slots seats : ℕ) (v : View C R) (front : List (Entry C R)) (heard : List ℕ) (others : Others C R) → IsMaker slots seats v → IsMaker slots seats (as_hearer v front heard others)
+  makes_on slots seats v front heard others t = record { slots_are = t.slots_are; number = t.number; none = t.none; there = t.there; some_slot = t.some_slot; made = t.made }
 
 module _ {O C R : Type 0} {obj : Ghosts O C R} where
-  session_on : (s : BoardState O C R) (o : IsOrderly obj s) (k : ℕ) (v : View C R) (front : List (Entry C R)) (heard : List ℕ) (others : Others C R) (z : Sleep) → IsSession o.slots o.owns k v → IsSession o.slots o.owns k (as_hearer v front heard others z)
-  session_on s o k v front heard others z t = record { own_is = t.own_is; is = t.is; small = t.small; wide = t.wide }
+  session_on : (s : BoardState O C R) (o : IsOrderly obj s) (k : ℕ) (v : View C R) (front : List (Entry C R)) (heard : List ℕ) (others : Others C R) → IsSession o.slots o.owns k v → IsSession o.slots o.owns k (as_hearer v front heard others)
+  session_on s o k v front heard others t = record { own_is = t.own_is; is = t.is; small = t.small; wide = t.wide }
 
   -- Seat `id` learns more.
-  module _ (s : BoardState O C R) (o : IsOrderly obj s) (id : ℕ) (v : View C R) (front : List (Entry C R)) (heard : List ℕ) (others : Others C R) (z : Sleep) (me : get_elem? s.views id ≡ opt.some v) where
+  module _ (s : BoardState O C R) (o : IsOrderly obj s) (id : ℕ) (v : View C R) (front : List (Entry C R)) (heard : List ℕ) (others : Others C R) (me : get_elem? s.views id ≡ opt.some v) where
     -- The pieces of the sessions that it knows to be handed in are those that they took.
     abbrev KnowsPieces : Type 0
     KnowsPieces = (p : ℕ) (x : Handed C R) → get_elem? others.handed p ≡ opt.some x → x.pieces ≡ pieces_of x.number o.pieces.all
 
     -- The view of the seat once it learned more.
     abbrev u : View C R
-    u = as_hearer v front heard others z
+    u = as_hearer v front heard others
 
     is_me : seat s id ≡ v
     is_me = (at_there s.views id v blank me).0
@@ -56,7 +55,7 @@ module _ {O C R : Type 0} {obj : Ghosts O C R} where
       heard = hears;
       others = tells;
       waits = λ some. ap (λ (x : View C R). x.own) (sym is_me) ∙ o.waits id some;
-      session = λ some_number. session_on s o id v front heard others z (session_of s o id v me some_number);
+      session = λ some_number. session_on s o id v front heard others (session_of s o id v me some_number);
       object = λ has. let t = object_of s o id v me has in record { lock_is = t.lock_is; session = t.session; named = t.named; whole = whole has };
       combiner = inl (ap (λ (x : View C R). x.combiner) (sym is_me));
       pieces = let p = pieces_of_seat s o id v me in record { own = p.own; handed = took; known = p.known };
@@ -74,7 +73,7 @@ module _ {O C R : Type 0} {obj : Ghosts O C R} where
         let gone : StaysGone s (viewed s o vs) o.owns o.owns = λ j some few none. (each_set s.views id u blank (λ j x. (seat s j).number ≡ 0 → x.number ≡ 0) sits (λ z. ap (λ (x : View C R). x.number) (sym is_me) ∙ z) (λ j ne z. z) j none, refl) in
         reviewed s o vs (omega arith)
         (subst (λ (n : ℕ). IsMaker o.slots n (get_or vs 0 blank)) (sym long) (each_set s.views id u blank (λ j x. j ≡ 0 → IsMaker o.slots (length s.views) x) sits
-        (λ e. makes_on o.slots (length s.views) v front heard others z (subst (λ (x : View C R). IsMaker o.slots (length s.views) x) (ap (seat s) (sym e) ∙ is_me) o.makes))
+        (λ e. makes_on o.slots (length s.views) v front heard others (subst (λ (x : View C R). IsMaker o.slots (length s.views) x) (ap (seat s) (sym e) ∙ is_me) o.makes))
         (λ j ne e. subst (λ (i : ℕ). IsMaker o.slots (length s.views) (seat s i)) (sym e) o.makes) 0 refl))
         (each_set s.views id u blank (Sits s o vs) sits (sits_here vs begins whole hears tells took) (λ k ne. sits-same s o vs (omega arith) gone k))
         (present_kept o.slots s (viewed s o vs) long (each_set s.views id u blank (λ j x. IsAlike (seat s j) x) sits (ap (λ (x : View C R). x.number) (sym is_me), kept) (λ j ne. (refl, refl))) o.present)
@@ -115,7 +114,7 @@ module _ {O C R : Type 0} {obj : Ghosts O C R} where
           let long = long_joint in
           reviewed s o joint (omega arith)
           (subst (λ (n : ℕ). IsMaker o.slots n (get_or joint 0 blank)) (sym long) (each (λ j x. j ≡ 0 → IsMaker o.slots (length s.views) x) (λ e. absurd (not_first e))
-          (λ e. makes_on o.slots (length s.views) v front heard others z (subst (λ (x : View C R). IsMaker o.slots (length s.views) x) (ap (seat s) (sym e) ∙ is_me) o.makes))
+          (λ e. makes_on o.slots (length s.views) v front heard others (subst (λ (x : View C R). IsMaker o.slots (length s.views) x) (ap (seat s) (sym e) ∙ is_me) o.makes))
           (λ j a b e. subst (λ (i : ℕ). IsMaker o.slots (length s.views) (seat s i)) (sym e) o.makes) 0 refl))
           (each (Sits s o joint)
           (record {
@@ -133,10 +132,10 @@ module _ {O C R : Type 0} {obj : Ghosts O C R} where
 
 module _ {O C R : Type 0} where
   -- A seat that learns doesn't change the publication list.
-  pub learned_listed : (s : BoardState O C R) (l : IsLinked s) (id : ℕ) (v : View C R) (front : List (Entry C R)) (heard : List ℕ) (others : Others C R) (z : Sleep) → get_elem? s.views id ≡ opt.some v
-      → IsLinked record { words = s.words; homes = s.homes; views = set s.views id (as_hearer v front heard others z) }
-  learned_listed s l id v front heard others z me =
-      let u : View C R = as_hearer v front heard others z in
+  pub learned_listed : (s : BoardState O C R) (l : IsLinked s) (id : ℕ) (v : View C R) (front : List (Entry C R)) (heard : List ℕ) (others : Others C R) → get_elem? s.views id ≡ opt.some v
+      → IsLinked record { words = s.words; homes = s.homes; views = set s.views id (as_hearer v front heard others) }
+  learned_listed s l id v front heard others me =
+      let u : View C R = as_hearer v front heard others in
       let vs : List (View C R) = set s.views id u in
       seen_listed s l vs (each_set s.views id u blank (Keeps s (viewed_as s l vs) l) (at_there s.views id v blank me).1
       (same_listed s l vs id v u (at_there s.views id v blank me).0 refl refl refl)
@@ -144,11 +143,11 @@ module _ {O C R : Type 0} where
 
   -- Nor does joining another seat in, if that seat's record, with no call listed, has to be on the list, or off it,
   -- only if it had to before.
-  merged_listed : (s : BoardState O C R) (l : IsLinked s) (id : ℕ) (v : View C R) (front : List (Entry C R)) (heard : List ℕ) (others : Others C R) (z : Sleep) (other : ℕ) (w : View C R) → get_elem? s.views id ≡ opt.some v
-      → get_elem? (set s.views id (as_hearer v front heard others z)) other ≡ opt.some w → ((b : Bool) → 0 < other → belongs (word s other) false ≡ Some b → belongs (word s other) (seat s other).own.listed ≡ Some b)
-      → IsLinked record { words = s.words; homes = s.homes; views = set (set s.views id (as_hearer v front heard others z)) other blank }
-  merged_listed s l id v front heard others z other w me with claims =
-      let u : View C R = as_hearer v front heard others z in
+  merged_listed : (s : BoardState O C R) (l : IsLinked s) (id : ℕ) (v : View C R) (front : List (Entry C R)) (heard : List ℕ) (others : Others C R) (other : ℕ) (w : View C R) → get_elem? s.views id ≡ opt.some v
+      → get_elem? (set s.views id (as_hearer v front heard others)) other ≡ opt.some w → ((b : Bool) → 0 < other → belongs (word s other) false ≡ Some b → belongs (word s other) (seat s other).own.listed ≡ Some b)
+      → IsLinked record { words = s.words; homes = s.homes; views = set (set s.views id (as_hearer v front heard others)) other blank }
+  merged_listed s l id v front heard others other w me with claims =
+      let u : View C R = as_hearer v front heard others in
       let vs : List (View C R) = set (set s.views id u) other blank in
       seen_listed s l vs (each_set (set s.views id u) other blank blank (Keeps s (viewed_as s l vs) l) (at_there (set s.views id u) other w blank with).1
       (record { claims = claims; heads_seen = λ n is. absurd (cc is); walkers = λ has. absurd (cc has) })
@@ -167,14 +166,14 @@ module _ {O C R : Type 0} {obj : Ghosts O C R} where
       let o = r.records in
       let k : Others C R = (joined v w).others in
       let hs : List ℕ = (joined v w).heard in
-      let w_is : seat s other ≡ w = is_other s o id v v.front hs k v.sleep me other w apart_from with in
-      let long = long_joint s o id v v.front hs k v.sleep me other w apart_from with in
-      let vs : List (View C R) = joint s o id v v.front hs k v.sleep me other w apart_from with in
-      let was : AreTrue o.history (viewed s o vs) o.slots o.owns v.others = subst (λ (x : View C R). AreTrue o.history (viewed s o vs) o.slots o.owns x.others) (seat_of s o id v me) (sits-others s o vs (omega arith) (gone_joint s o id v v.front hs k v.sleep me other w apart_from with) id) in
-      let theirs : AreTrue o.history (viewed s o vs) o.slots o.owns w.others = subst (λ (x : View C R). AreTrue o.history (viewed s o vs) o.slots o.owns x.others) w_is (sits-others s o vs (omega arith) (gone_joint s o id v v.front hs k v.sleep me other w apart_from with) other) in
+      let w_is : seat s other ≡ w = is_other s o id v v.front hs k me other w apart_from with in
+      let long = long_joint s o id v v.front hs k me other w apart_from with in
+      let vs : List (View C R) = joint s o id v v.front hs k me other w apart_from with in
+      let was : AreTrue o.history (viewed s o vs) o.slots o.owns v.others = subst (λ (x : View C R). AreTrue o.history (viewed s o vs) o.slots o.owns x.others) (seat_of s o id v me) (sits-others s o vs (omega arith) (gone_joint s o id v v.front hs k me other w apart_from with) id) in
+      let theirs : AreTrue o.history (viewed s o vs) o.slots o.owns w.others = subst (λ (x : View C R). AreTrue o.history (viewed s o vs) o.slots o.owns x.others) w_is (sits-others s o vs (omega arith) (gone_joint s o id v v.front hs k me other w apart_from with) other) in
       record {
         records =
-            merged s o id v v.front hs k v.sleep me other w apart_from with
+            merged s o id v v.front hs k me other w apart_from with
             (λ e. let z : w.slots ≡ o.slots = ap (λ (x : View C R). x.slots) (sym w_is) ∙ (ap (λ (j : ℕ). (seat s j).slots) e ∙ o.makes.slots_are) in omega (arith, o.makes.some_slot))
             idle.0 no_object (front_of s o id v me) (whole_of s o id v me)
             (λ j. let a = heard_few s o id v me j in let b : get_or w.heard j 0 ≤ announced (own_at o.owns j) = subst (λ (x : View C R). get_or x.heard j 0 ≤ announced (own_at o.owns j)) w_is (o.heard other j) in
@@ -187,10 +186,10 @@ module _ {O C R : Type 0} {obj : Ghosts O C R} where
             })
             (pieces_of_seat s o id v me).handed
             (present_kept o.slots s (viewed s o vs) long
-            (each s o id v v.front hs k v.sleep me other w apart_from with (λ j x. IsAlike (seat s j) x)
+            (each s o id v v.front hs k me other w apart_from with (λ j x. IsAlike (seat s j) x)
             (sym (ap (λ (x : View C R). x.number) w_is ∙ no_number), sym (ap (λ (x : View C R). x.others.handed) w_is ∙ none_handed))
             (ap (λ (x : View C R). x.number) (sym (seat_of s o id v me)), ap (λ (x : View C R). x.others.handed) (sym (seat_of s o id v me))) (λ j a b. (refl, refl))) o.present);
-        list = merged_listed s r.list id v v.front hs k v.sleep other w me with (λ b some is.
+        list = merged_listed s r.list id v v.front hs k other w me with (λ b some is.
             ap (λ (y : View C R). belongs (word s other) y.own.listed) w_is ∙ (ap (λ (y : Bool). belongs (word s other) y) idle.1 ∙ is));
       }
 
@@ -199,12 +198,12 @@ module _ {O C R : Type 0} {obj : Ghosts O C R} where
   gathers id v other w no_number some_number settled no_object s r me apart_from with =
       let o = r.records in
       let k : Others C R = (gathered v w).others in
-      let w_is : seat s other ≡ w = is_other s o id v v.front v.heard k (taking_over v.sleep w.sleep) me other w apart_from with in
-      let long = long_joint s o id v v.front v.heard k (taking_over v.sleep w.sleep) me other w apart_from with in
-      let vs : List (View C R) = joint s o id v v.front v.heard k (taking_over v.sleep w.sleep) me other w apart_from with in
-      let was : AreTrue o.history (viewed s o vs) o.slots o.owns v.others = subst (λ (x : View C R). AreTrue o.history (viewed s o vs) o.slots o.owns x.others) (seat_of s o id v me) (sits-others s o vs (omega arith) (gone_joint s o id v v.front v.heard k (taking_over v.sleep w.sleep) me other w apart_from with) id) in
+      let w_is : seat s other ≡ w = is_other s o id v v.front v.heard k me other w apart_from with in
+      let long = long_joint s o id v v.front v.heard k me other w apart_from with in
+      let vs : List (View C R) = joint s o id v v.front v.heard k me other w apart_from with in
+      let was : AreTrue o.history (viewed s o vs) o.slots o.owns v.others = subst (λ (x : View C R). AreTrue o.history (viewed s o vs) o.slots o.owns x.others) (seat_of s o id v me) (sits-others s o vs (omega arith) (gone_joint s o id v v.front v.heard k me other w apart_from with) id) in
       let t : IsSession o.slots o.owns other w = subst (λ (x : View C R). x.number ≢ 0 → IsSession o.slots o.owns other x) w_is (o.sessions other) some_number in
-      let far : other < length s.views = (at_there s.views other w blank (there s o id v v.front v.heard k (taking_over v.sleep w.sleep) me other w apart_from with)).1 in
+      let far : other < length s.views = (at_there s.views other w blank (there s o id v v.front v.heard k me other w apart_from with)).1 in
       let own_is : own_at o.owns w.number ≡ w.own = ap (own_at o.owns) t.is ∙ sym t.own_is in
       let now : IsHanded o.history (viewed s o vs) o.slots o.owns (handed_in w) = record {
         some = omega arith;
@@ -216,14 +215,14 @@ module _ {O C R : Type 0} {obj : Ghosts O C R} where
         begins = subst (λ (x : View C R). IsPrefix x.front o.history) w_is (o.fronts other);
       } in
       let v_is : seat s id ≡ v = seat_of s o id v me in
-      let seats = each s o id v v.front v.heard k (taking_over v.sleep w.sleep) me other w apart_from with in
+      let seats = each s o id v v.front v.heard k me other w apart_from with in
       let mine : get_or vs id blank ≡ gathered v w = seats (λ j x. j ≡ id → x ≡ gathered v w) (λ e. absurd (apart_from e)) (λ _. refl) (λ j a b e. absurd (a e)) id refl in
       let theirs : get_or vs other blank ≡ blank = seats (λ j x. j ≡ other → x ≡ blank) (λ _. refl) (λ e. absurd (apart_from (sym e))) (λ j a b e. absurd (b e)) other refl in
       let took_now : w.pieces.own ≡ pieces_of w.number o.pieces.all = (subst (HasPieces o.pieces.all) w_is (o.pieces.seats other)).own some_number in
       let stands : RecordState o.history other (word s other) (home s other) w.own = subst (λ (y : Own C R). RecordState o.history other (word s other) (home s other) y) (sym t.own_is) (o.stands other (omega (arith, t.is)) t.small) in
       record {
         records =
-            merged s o id v v.front v.heard k (taking_over v.sleep w.sleep) me other w apart_from with
+            merged s o id v v.front v.heard k me other w apart_from with
             (λ e. some_number (omega (arith, t.is)))
             settled no_object (front_of s o id v me) (whole_of s o id v me) (heard_few s o id v me)
             (record {
@@ -243,7 +242,7 @@ module _ {O C R : Type 0} {obj : Ghosts O C R} where
             apart_from
             (λ j p y at e. some_number (ap (λ (x : View C R). x.number) (sym w_is) ∙ (ap (λ (i : ℕ). (seat s i).number) (sym e) ∙ ((o.others j).handed p y at).gone)))
             long o.present);
-        list = merged_listed s r.list id v v.front v.heard k (taking_over v.sleep w.sleep) other w me with (λ b some is.
+        list = merged_listed s r.list id v v.front v.heard k other w me with (λ b some is.
             ap (λ (y : View C R). belongs (word s other) y.own.listed) w_is ∙ idle_belongs stands settled false w.own.listed b is);
       }
 

@@ -54,7 +54,7 @@ module _ {O C R : Type 0} {obj : Ghosts O C R} where
     module _ (b n : ℕ) (to : Listing) (on : IsOn b l.list) (same_head_seen : to.head_seen ≡ v.listing.head_seen) where
       -- The combiner's view after the step.
       abbrev u : View C R
-      u = record { of = v.of; number = v.number; slots = v.slots; made = v.made; front = v.front; own = v.own; combiner = v.combiner; heard = v.heard; listing = to; others = v.others; pieces = v.pieces; sleep = v.sleep }
+      u = record { of = v.of; number = v.number; slots = v.slots; made = v.made; front = v.front; own = v.own; combiner = v.combiner; heard = v.heard; listing = to; others = v.others; pieces = v.pieces }
 
       -- The words after the step.
       abbrev ws : List ℕ
@@ -169,7 +169,7 @@ module _ {O C R : Type 0} {obj : Ghosts O C R} where
       }
 
       unlink_goes : (more_slots : List (ℕ × SlotValue O C R)) → GoesAt obj s (link_of b) i (v, more_slots) (λ _. unlinks_behind b (v, more_slots) n) n
-      unlink_goes more_slots = (bypassing v b, refl, keeps, tt, record { records = records_now b n (bypassing v b).listing on_b refl; list = unlink_listed }, refl)
+      unlink_goes more_slots = (bypassing v b, keeps, tt, record { records = records_now b n (bypassing v b).listing on_b refl; list = unlink_listed }, refl)
 
     -- mark out
 
@@ -197,7 +197,7 @@ module _ {O C R : Type 0} {obj : Ghosts O C R} where
       marked_here : word marked_state w ≡ OUT
       marked_here = get_or-set_same s.words (word_of w) OUT 0 (omega (arith, few, o.words_are))
 
-      mark_step : word s w ≡ EMPTY → IsRecordStep s o i v w OUT (home s w) v.front v.combiner (none_unlinked v).listing v.pieces v.sleep me some_number o.history
+      mark_step : word s w ≡ EMPTY → IsRecordStep s o i v w OUT (home s w) v.front v.combiner (none_unlinked v).listing v.pieces me some_number o.history
       mark_step hit = record {
         has = has;
         still = has;
@@ -220,7 +220,7 @@ module _ {O C R : Type 0} {obj : Ghosts O C R} where
 
       mark_records : word s w ≡ EMPTY → IsOrderly obj marked_state
       mark_records hit = subst (λ (hs : List (opt.Option (SlotValue O C R))). IsOrderly obj record { words = set s.words (word_of w) OUT; homes = hs; views = set s.views i (none_unlinked v) }) (set-get_or s.homes w opt.none)
-          (combined s o i v w OUT (home s w) v.front v.combiner (none_unlinked v).listing v.pieces v.sleep me some_number o.history (mark_step hit))
+          (combined s o i v w OUT (home s w) v.front v.combiner (none_unlinked v).listing v.pieces me some_number o.history (mark_step hit))
 
       -- Whether any other record has to be on the list doesn't change.
       marked_claims : (j : ℕ) → j ≢ w → is_listed marked_state j ≡ is_listed s j
@@ -292,7 +292,6 @@ module _ {O C R : Type 0} {obj : Ghosts O C R} where
       mark_won : (more : List (ℕ × SlotValue O C R)) → word s w ≡ EMPTY → MarkOutcome more OUT
       mark_won more hit = (
         none_unlinked v,
-        refl,
         keeps,
         tt,
         record { records = mark_records hit; list = mark_listed },
@@ -302,7 +301,6 @@ module _ {O C R : Type 0} {obj : Ghosts O C R} where
       mark_closed : (more : List (ℕ × SlotValue O C R)) → word s w ≡ CLOSED → MarkOutcome more (word s w)
       mark_closed more hit = (
         none_unlinked v,
-        refl,
         keeps,
         tt,
         subst (λ (ws : List ℕ). IsRuled obj record { words = ws; homes = s.homes; views = set s.views i (none_unlinked v) }) (sym (set-get_or s.words (word_of w) 0)) (record {
@@ -315,7 +313,6 @@ module _ {O C R : Type 0} {obj : Ghosts O C R} where
       mark_lost : (more : List (ℕ × SlotValue O C R)) → word s w ≢ EMPTY → MarkOutcome more (word s w)
       mark_lost more miss = dite (ℕ_discrete (word s w) CLOSED) (mark_closed more) (λ other. (
         v,
-        refl,
         keeps,
         tt,
         same_rule i v is some_number s o l me small (word_of w),
@@ -387,7 +384,7 @@ module _ {O C R : Type 0} {obj : Ghosts O C R} where
       }
 
       relink_goes : (more : List (ℕ × SlotValue O C R)) → GoesAt obj s (link_of b) i (v, more) (λ _. relinks (step o.slots (link_of b) w 0 opt.none) (v, more) w) w
-      relink_goes more = (relinking v, refl, keeps, tt, record { records = records_now b w (relinking v).listing on_list refl; list = relink_listed }, refl)
+      relink_goes more = (relinking v, keeps, tt, record { records = records_now b w (relinking v).listing on_list refl; list = relink_listed }, refl)
 
 module _ {O C R : Type 0} where
   -- What the table demands of each of these steps.
@@ -397,17 +394,17 @@ module _ {O C R : Type 0} where
       pub unlink_kept : (b w n : ℕ) → v.listing.off ≡ 0 → IsOn b v.listing.route → first_of (behind b v.listing.route) ≡ Some w → n ≡ head_of (behind w v.listing.route)
           → Allows (IsBounded obj bound) slots id (v, more) (link_of b) (λ _. n) (λ _. unlinks (step slots (link_of b) n 0 opt.none) (v, more) n)
       unlink_kept b w n none_off there next read = subst (λ (k : ℕ). Allows (IsBounded obj bound) slots id (v, more) (link_of b) (λ _. n) (λ _. unlinks_behind k (v, more) n)) (sym (session_of_its_link b))
-          (seated_at slots id v.number (link_of b) v more (λ _. n) (λ _. unlinks_behind b (v, more) n) refl (omega arith) (λ k e. omega (arith, e)) (λ e. absurd (omega (arith, e)))
+          (seated_at slots id v.number (link_of b) v more (λ _. n) (λ _. unlinks_behind b (v, more) n) refl (omega arith)
           (λ s o l me small e. unlink_goes v.number v refl (omega arith) s o l me small has b w n none_off there next read more))
 
       -- Mark out keeps the rule, for the record that the combiner has unlinked.
       pub mark_kept : (w : ℕ) → v.listing.off ≡ w → 0 < w → v.combiner.hand ≡ 0
           → Allows (IsBounded obj bound) slots id (v, more) (word_of w) (λ n. either (eqb n EMPTY) OUT n) (marks_out (step slots (word_of w) EMPTY OUT opt.none) (v, more))
-      mark_kept w off_is some_off empty = seated_at slots id v.number (word_of w) v more (λ n. either (eqb n EMPTY) OUT n) (marks_out (step slots (word_of w) EMPTY OUT opt.none) (v, more)) refl (omega arith) (λ k e. omega (arith, e)) (λ e. absurd (omega (arith, e, some_off)))
+      mark_kept w off_is some_off empty = seated_at slots id v.number (word_of w) v more (λ n. either (eqb n EMPTY) OUT n) (marks_out (step slots (word_of w) EMPTY OUT opt.none) (v, more)) refl (omega arith)
           (λ s o l me small e. mark_goes v.number v refl (omega arith) s o l me small has w off_is some_off empty more)
 
       -- Relink keeps the rule, for the record that the combiner has unlinked.
       pub relink_kept : (b w : ℕ) → v.listing.off ≡ w → v.listing.before ≡ b → 0 < w → IsOn b v.listing.route
           → Allows (IsBounded obj bound) slots id (v, more) (link_of b) (λ _. w) (λ _. relinks (step slots (link_of b) w 0 opt.none) (v, more) w)
-      relink_kept b w off_is before_is some_off there = seated_at slots id v.number (link_of b) v more (λ _. w) (λ _. relinks (step slots (link_of b) w 0 opt.none) (v, more) w) refl (omega arith) (λ k e. omega (arith, e)) (λ e. absurd (omega (arith, e)))
+      relink_kept b w off_is before_is some_off there = seated_at slots id v.number (link_of b) v more (λ _. w) (λ _. relinks (step slots (link_of b) w 0 opt.none) (v, more) w) refl (omega arith)
           (λ s o l me small e. relink_goes v.number v refl (omega arith) s o l me small has b w off_is before_is some_off there more)

@@ -7,7 +7,6 @@ use Rattle.std.specs.Global.{Box}
 use Rattle.publication.specs.Words.{link_of, END, FREE, OUT, CLOSED, EMPTY}
 use Rattle.publication.specs.Views.{Listing}
 use Rattle.publication.specs.Rule.{BoardState, word, home, seat, IsOrderly}
-use Rattle.publication.specs.Sleepers.{HasHeededSleepers}
 use Rattle.publication.specs.declared.slot.Load.{Load}
 use Rattle.publication.specs.declared.slot.SlotValue.TheVariants.{ObjectLoad}
 use Rattle.sequential.specs.declared.object.Sequential.{Ghosts}
@@ -117,11 +116,10 @@ module _ {O C R : Type 0} (obj : Ghosts O C R) where
     pub list : IsLinked s
 
 module _ {O C R : Type 0} (obj : Ghosts O C R) (bound : Bounds) where
-  -- The rule of a board whose object keeps so much at most, whenever it is at home. Each session that is down is heeded.
+  -- The rule of a board whose object keeps so much at most, whenever it is at home.
   pub record IsBounded (s : BoardState O C R) : Type 0 where
     pub ruled : IsRuled obj s
     pub within : (load : Box (Load O C R)) → home s 0 ≡ opt.some (ObjectLoad load) → obj.bound load.value.object ≡ bound
-    pub sleepers : HasHeededSleepers s
 
 module _ {O : Type 0} (bound : O → Bounds) where
   -- How much the first of these objects keeps at most.

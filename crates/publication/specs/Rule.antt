@@ -15,7 +15,6 @@ use Rattle.publication.specs.Words.{word_of, FREE, OUT, POSTED, BUSY, SERVED, CL
 use Rattle.publication.specs.Moments.{noted_by}
 use Rattle.publication.specs.Pieces.{pieces_of, AreInOrder, AreInARow}
 use Rattle.publication.specs.Views.{Pending, Own, Combiner, Listing, Handed, Others, Taken, entry, answer, asks}
-use Rattle.publication.specs.Sleep.{awake}
 use Rattle.publication.specs.declared.piece.Piece.{Piece}
 use Rattle.publication.specs.declared.view.View.{View}
 use Rattle.publication.specs.declared.slot.Load.{Load}
@@ -50,15 +49,15 @@ module _ {C R : Type 0} where
 
   -- The first seat, which makes the sessions, after it has made `made` of them.
   abbrev pub maker : ℕ → ℕ → View C R
-  maker slots made = record { of = record {}; number = 0; slots = slots; made = made; front = []; own = fresh; combiner = no_combiner 0; heard = []; listing = unwalked; others = apart (nat_le slots (made + 1)); pieces = no_pieces; sleep = awake }
+  maker slots made = record { of = record {}; number = 0; slots = slots; made = made; front = []; own = fresh; combiner = no_combiner 0; heard = []; listing = unwalked; others = apart (nat_le slots (made + 1)); pieces = no_pieces }
 
   -- The view of a seat that doesn't exist, or was joined into another.
   abbrev pub blank : View C R
-  blank = record { of = record {}; number = 0; slots = 0; made = 0; front = []; own = fresh; combiner = no_combiner 0; heard = []; listing = unwalked; others = apart false; pieces = no_pieces; sleep = awake }
+  blank = record { of = record {}; number = 0; slots = 0; made = 0; front = []; own = fresh; combiner = no_combiner 0; heard = []; listing = unwalked; others = apart false; pieces = no_pieces }
 
   -- The seat of a session that was just made.
   abbrev pub new_session : ℕ → ℕ → View C R
-  new_session slots number = record { of = record {}; number = number; slots = slots; made = 0; front = []; own = fresh; combiner = no_combiner slots; heard = replicate slots 0; listing = unwalked; others = apart false; pieces = no_pieces; sleep = awake }
+  new_session slots number = record { of = record {}; number = number; slots = slots; made = 0; front = []; own = fresh; combiner = no_combiner slots; heard = replicate slots 0; listing = unwalked; others = apart false; pieces = no_pieces }
 
 -- Parts of the board's state.
 

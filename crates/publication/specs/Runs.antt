@@ -7,10 +7,9 @@ use Rattle.atomic_table.specs.Table.{Act, Valid, carried_after, stepped, step}
 use Rattle.sequential.specs.Histories.{Answered}
 use Rattle.publication.specs.Words.{word_of}
 use Rattle.publication.specs.Views.{Pending}
-use Rattle.publication.specs.Sleep.{SleepStep}
 use Rattle.publication.specs.Rule.{blank, maker, new_session, BoardState}
 use Rattle.publication.specs.List.{IsRuled}
-use Rattle.publication.specs.StepKinds.{Seated, Kind, starts, posts, looks_at_head, links, enlists, looks_for_reply, takes_reply, looks_at_lock, seizes, releases, walks, walks_on, unlinks, marks_out, relinks, looks_at_record, opened_in, opens, lays, picks, answers, puts_back, enters, copy_of, front_copy_of, joined, learns, compares, retires, leaves, gathered, drowses}
+use Rattle.publication.specs.StepKinds.{Seated, Kind, starts, posts, looks_at_head, links, enlists, looks_for_reply, takes_reply, looks_at_lock, seizes, releases, walks, walks_on, unlinks, marks_out, relinks, looks_at_record, opened_in, opens, lays, picks, answers, puts_back, enters, copy_of, front_copy_of, joined, learns, compares, retires, leaves, gathered}
 use Rattle.publication.specs.Collected.{HasCollected}
 use Rattle.publication.specs.declared.view.View.{View}
 use Rattle.publication.specs.declared.slot.Load.{Load}
@@ -18,7 +17,7 @@ use Rattle.publication.specs.declared.slot.SlotValue.{SlotValue}
 use Rattle.publication.specs.declared.slot.SlotValue.TheVariants.{ObjectLoad}
 use Rattle.sequential.specs.declared.object.Sequential.{Ghosts}
 
--- The kinds of step on a word, by name. A direct entry names the call and the reply that it enters, a step of sleep which it is.
+-- The kinds of step on a word, by name. A direct entry names the call and the reply that it enters.
 pub data StepName (C R : Type 0) : Type 0 where
   start : StepName C R
   post : StepName C R
@@ -46,7 +45,6 @@ pub data StepName (C R : Type 0) : Type 0 where
   compare : StepName C R
   retire : StepName C R
   leave : StepName C R
-  drowse : SleepStep → StepName C R
 
 module _ {O C R : Type 0} (obj : Ghosts O C R) where
   -- The definition of each kind.
@@ -77,7 +75,6 @@ module _ {O C R : Type 0} (obj : Ghosts O C R) where
   kind_of compare = compares
   kind_of retire = retires
   kind_of leave = leaves
-  kind_of (drowse x) = drowses x
 
 module _ {O C R : Type 0} where
   -- The seat is the combiner's.

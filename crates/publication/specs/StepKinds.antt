@@ -32,17 +32,6 @@
 --   retire          the session's   its record, EMPTY or OUT to CLOSED
 --   leave           the session's   its record's state word is read; its slot goes home for good
 --   gather          the closing's   the lock word is read; the seat of a session that left is joined into it, and ends
---
--- Steps of sleep take and lay down no slot, and change what the seat knows of sleep alone:
---
---   lie down           the session's   its sleep word, to ASLEEP
---   tell sleepers      the session's   the board's sleep word, to ASLEEP
---   look if held       the session's   the lock word is read
---   look if roused     the session's   its sleep word is read
---   get up             the session's   its sleep word, to AWAKE
---   look for sleepers  the session's   the board's sleep word is read, behind a release
---   sweep              the session's   the board's sleep word, to AWAKE; then it looks at all records
---   rouse              the session's   a record's sleep word, ASLEEP to AWAKE, by compare-exchange
 use Rattle.std.specs.Prelude.{◌≡◌, ◌≢◌, ℕ, ◌+◌, ◌^◌, ◌<◌, ◌≤◌, max, nat_lt, ◌==◌, ◌||◌, cond, Bool, true, false, Option, Some, None, List, [], ◌∷◌, ◌++◌, length, slice_set, slice_index_or}
 use Rattle.sequential.specs.Bounds.{Bounds}
 use mathlib.Core.Option as opt
@@ -53,10 +42,8 @@ use Rattle.std.specs.Global.{Box}
 use Rattle.sequential.specs.declared.entry.Entry.{Entry}
 use Rattle.sequential.specs.Histories.{Answered, calls_of}
 use Rattle.sequential.specs.Linearizable.{Event, invocation, response}
-use Rattle.publication.specs.Words.{session_of_word, END, FREE, POSTED, SERVED, CLOSED, EMPTY, ASLEEP}
+use Rattle.publication.specs.Words.{session_of_word, END, FREE, POSTED, SERVED, CLOSED, EMPTY}
 use Rattle.publication.specs.Pieces.{pieces_of, added}
-use Rattle.publication.specs.Sleep.{Sleep, SleepStep, awake, lain, having_told, having_seen, having_asked, risen, having_freed, having_looked, sweeping, passing, rousing, taking_over}
-use Rattle.publication.specs.Sleep.SleepStep.{lie_down, tell_sleepers, look_if_held, look_if_roused, get_up, look_for_sleepers, sweep, rouse}
 use Rattle.publication.specs.Views.{Pending, Own, Combiner, Listing, Handed, Others, Taken, IsAccountedIn, entry, answer, asks}
 use Rattle.publication.specs.Rule.{fresh, no_combiner, no_pieces, unwalked, apart, pieces_in, IsHome, announced, heard_of}
 use Rattle.publication.specs.List.{IsOn, AreApart, head_of, behind, without, with_behind}
@@ -93,19 +80,15 @@ module _ {C : Type 0} where
 module _ {C R : Type 0} where
   -- The view after a step of the session itself.
   abbrev pub as_session : View C R → List (Entry C R) → Own C R → List ℕ → Listing → View C R
-  as_session v front o heard l = record { of = v.of; number = v.number; slots = v.slots; made = v.made; front = front; own = o; combiner = v.combiner; heard = heard; listing = l; others = v.others; pieces = v.pieces; sleep = v.sleep }
+  as_session v front o heard l = record { of = v.of; number = v.number; slots = v.slots; made = v.made; front = front; own = o; combiner = v.combiner; heard = heard; listing = l; others = v.others; pieces = v.pieces }
 
   -- The view after a step of the combiner.
   abbrev pub as_combiner : View C R → List (Entry C R) → Combiner C → Listing → View C R
-  as_combiner v front c l = record { of = v.of; number = v.number; slots = v.slots; made = v.made; front = front; own = v.own; combiner = c; heard = v.heard; listing = l; others = v.others; pieces = v.pieces; sleep = v.sleep }
+  as_combiner v front c l = record { of = v.of; number = v.number; slots = v.slots; made = v.made; front = front; own = v.own; combiner = c; heard = v.heard; listing = l; others = v.others; pieces = v.pieces }
 
   -- The view with other pieces.
   abbrev pub with_pieces : View C R → Taken → View C R
-  with_pieces v t = record { of = v.of; number = v.number; slots = v.slots; made = v.made; front = v.front; own = v.own; combiner = v.combiner; heard = v.heard; listing = v.listing; others = v.others; pieces = t; sleep = v.sleep }
-
-  -- The view with another sleep.
-  abbrev pub with_sleep : View C R → Sleep → View C R
-  with_sleep v z = record { of = v.of; number = v.number; slots = v.slots; made = v.made; front = v.front; own = v.own; combiner = v.combiner; heard = v.heard; listing = v.listing; others = v.others; pieces = v.pieces; sleep = z }
+  with_pieces v t = record { of = v.of; number = v.number; slots = v.slots; made = v.made; front = v.front; own = v.own; combiner = v.combiner; heard = v.heard; listing = v.listing; others = v.others; pieces = t }
 
 -- The listing while no exchange of the head word is due: no head is noted.
 abbrev pub forget_head : Listing → Listing
@@ -286,11 +269,9 @@ module _ {O C R : Type 0} (obj : Ghosts O C R) where
 module _ {C R : Type 0} where
   -- Release.
 
-  -- The session isn't the combiner any more. The pieces that it took meanwhile are its own. It is about to look whether a session
-  -- may sleep.
+  -- The session isn't the combiner any more. The pieces that it took meanwhile are its own.
   abbrev pub releasing : View C R → List Piece → View C R
-  releasing v all = with_sleep (with_pieces (as_combiner v v.front (combiner v.combiner false v.combiner.opened 0) (no_walk v.listing)) (record { own = v.pieces.own ++ added v.pieces.all all; all = [] }))
-      (having_freed v.sleep)
+  releasing v all = with_pieces (as_combiner v v.front (combiner v.combiner false v.combiner.opened 0) (no_walk v.listing)) (record { own = v.pieces.own ++ added v.pieces.all all; all = [] })
 
 module _ {O C R : Type 0} where
   -- The pieces that are noted in the load in the slot taken last; none if no load is there.
@@ -500,7 +481,6 @@ module _ {C R : Type 0} where
     listing = v.listing;
     others = v.others;
     pieces = v.pieces;
-    sleep = v.sleep;
   }
 
 module _ {O C R : Type 0} where
@@ -520,12 +500,12 @@ module _ {C R : Type 0} where
   -- which front is the longer.
 
   -- The view after a seat learned from another.
-  abbrev pub as_hearer : View C R → List (Entry C R) → List ℕ → Others C R → Sleep → View C R
-  as_hearer v front heard others z = record { of = v.of; number = v.number; slots = v.slots; made = v.made; front = front; own = v.own; combiner = v.combiner; heard = heard; listing = v.listing; others = others; pieces = v.pieces; sleep = z }
+  abbrev pub as_hearer : View C R → List (Entry C R) → List ℕ → Others C R → View C R
+  as_hearer v front heard others = record { of = v.of; number = v.number; slots = v.slots; made = v.made; front = front; own = v.own; combiner = v.combiner; heard = heard; listing = v.listing; others = others; pieces = v.pieces }
 
   -- A new seat that knows the front of the history that this one knows, these numbers of published calls, and nothing else.
   abbrev pub copy_with : View C R → List ℕ → View C R
-  copy_with v heard = record { of = record {}; number = 0; slots = 0; made = 0; front = v.front; own = fresh; combiner = no_combiner 0; heard = heard; listing = unwalked; others = apart true; pieces = no_pieces; sleep = awake }
+  copy_with v heard = record { of = record {}; number = 0; slots = 0; made = 0; front = v.front; own = fresh; combiner = no_combiner 0; heard = heard; listing = unwalked; others = apart true; pieces = no_pieces }
 
   -- A new seat that knows what this one does of the history and of what is published.
   abbrev pub copy_of : View C R → View C R
@@ -544,7 +524,7 @@ maxes (x ∷ xs) (y ∷ ys) = max x y ∷ maxes xs ys
 module _ {C R : Type 0} where
   -- The seat counts as heard the larger number for each session, and notes the other's front beside its own.
   abbrev pub joined : View C R → View C R → View C R
-  joined v w = as_hearer v v.front (maxes v.heard w.heard) (record { all_made = v.others.all_made || w.others.all_made; beside = w.front; handed = v.others.handed; logs = v.others.logs }) v.sleep
+  joined v w = as_hearer v v.front (maxes v.heard w.heard) (record { all_made = v.others.all_made || w.others.all_made; beside = w.front; handed = v.others.handed; logs = v.others.logs })
 
   -- The longer of two fronts of the history; the first if both are as long.
   abbrev pub longer : List (Entry C R) → List (Entry C R) → List (Entry C R)
@@ -552,7 +532,7 @@ module _ {C R : Type 0} where
 
   -- The seat knows the longer of both fronts.
   abbrev pub learning : View C R → View C R
-  learning v = as_hearer v (longer v.front v.others.beside) v.heard v.others v.sleep
+  learning v = as_hearer v (longer v.front v.others.beside) v.heard v.others
 
 module _ {O C R : Type 0} (obj : Ghosts O C R) where
   -- What a seat learns from another: the longer front is legal and continues both fronts; it has the calls that the session
@@ -586,7 +566,7 @@ module _ {O C R : Type 0} where
 module _ {C R : Type 0} where
   -- The seat after it compared another's front with its own: it notes that front beside its own, and learns nothing else.
   abbrev pub comparing : View C R → View C R → View C R
-  comparing v w = as_hearer v v.front v.heard (record { all_made = v.others.all_made || true; beside = w.front; handed = v.others.handed; logs = v.others.logs }) v.sleep
+  comparing v w = as_hearer v v.front v.heard (record { all_made = v.others.all_made || true; beside = w.front; handed = v.others.handed; logs = v.others.logs })
 
   -- Retire.
 
@@ -618,23 +598,4 @@ module _ {C R : Type 0} where
 
   -- The session is added to those that were handed in.
   abbrev pub gathered : View C R → View C R → View C R
-  gathered v w = as_hearer v v.front v.heard (record { all_made = v.others.all_made; beside = v.others.beside; handed = v.others.handed ++ handed_in w ∷ []; logs = v.others.logs ++ (w.number, w.own.log) ∷ [] }) (taking_over v.sleep w.sleep)
-
--- Sleep.
-
--- What each of these kinds leaves of what the seat knew of sleep, given the number of slots, the word's index and the value that was
--- found there.
-abbrev pub sleeps_so : SleepStep → ℕ → ℕ → Sleep → ℕ → Sleep → Type 0
-sleeps_so lie_down slots at z found y = y ≡ lain z
-sleeps_so tell_sleepers slots at z found y = y ≡ having_told z
-sleeps_so look_if_held slots at z found y = (found ≢ FREE → y ≡ having_seen z) × (found ≡ FREE → y ≡ z)
-sleeps_so look_if_roused slots at z found y = (found ≢ ASLEEP → y ≡ risen (having_asked z)) × (found ≡ ASLEEP → y ≡ having_asked z)
-sleeps_so get_up slots at z found y = y ≡ risen z
-sleeps_so look_for_sleepers slots at z found y = (found ≢ ASLEEP → y ≡ having_looked z) × (found ≡ ASLEEP → y ≡ z)
-sleeps_so sweep slots at z found y = y ≡ sweeping slots z
-sleeps_so rouse slots at z found y = (found ≡ ASLEEP → (n : ℕ) × (y ≡ rousing (session_of_word at) n z)) × (found ≢ ASLEEP → y ≡ passing (session_of_word at) z)
-
-module _ {O C R : Type 0} where
-  -- A step of sleep: the seat knows nothing else than before.
-  abbrev pub drowses : SleepStep → Kind O C R
-  drowses x st m found n = (n ≡ (with_sleep m.0 n.0.sleep, m.1)) × sleeps_so x st.slots st.word m.0.sleep found n.0.sleep
+  gathered v w = as_hearer v v.front v.heard (record { all_made = v.others.all_made; beside = v.others.beside; handed = v.others.handed ++ handed_in w ∷ []; logs = v.others.logs ++ (w.number, w.own.log) ∷ [] })

@@ -134,18 +134,6 @@ pub record TicketView (C R : Type 0) : Type 0 where
   pub pieces : List Piece
   -- while it is the combiner: the pieces that all sessions took before, in order
   pub taken : List Piece
-  -- the session has begun a sleep, and has not got up or seen since that it was roused
-  pub down : Bool
-  -- it has seen since that another session had the object
-  pub saw : Bool
-  -- how many sleeps it has begun
-  pub sleeps : ℕ
-  -- how often it has looked whether its sleep was ended
-  pub asked : ℕ
-  -- it has given the object back, and hasn't looked since whether a session may sleep
-  pub looks : Bool
-  -- the sleeps that it has ended, each by its session and by how many that session had begun with it, the latest first
-  pub ended : List (ℕ × ℕ)
 
 -- What contracts see of a session's knowledge that travels apart from its ticket.
 pub record KnowledgeView (C R : Type 0) : Type 0 where

@@ -11,11 +11,7 @@ word_of number = number * 8
 abbrev pub link_of : ℕ → ℕ
 link_of number = number * 8 + 1
 
--- The index of a record's sleep word, behind its link word. With number 0 it is the index of the board's sleep word.
-abbrev pub sleep_of : ℕ → ℕ
-sleep_of number = number * 8 + 2
-
--- The session whose state word, link word or sleep word has this index, or 0 for the lock word, the head word and the board's sleep word.
+-- The session whose state word or link word has this index, or 0 for the lock word and the head word.
 abbrev pub session_of_word : ℕ → ℕ
 session_of_word at = at / 8
 
@@ -50,12 +46,3 @@ CLOSED = 4
 -- State word of a record: its session has no call pending, and the record is on the publication list.
 abbrev pub EMPTY : ℕ
 EMPTY = 5
-
--- Sleep word of a record: its session's thread is awake, or was roused. Sleep word of the board: no session's thread sleeps, but for those
--- that a seat is about to look at.
-abbrev pub AWAKE : ℕ
-AWAKE = 0
-
--- Sleep word of a record: its session's thread may sleep. Sleep word of the board: some session's thread may.
-abbrev pub ASLEEP : ℕ
-ASLEEP = 1

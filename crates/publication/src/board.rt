@@ -13,7 +13,6 @@ ghost use Rattle.publication.specs.inner.Closing.{is_settled};
 mod combiner;
 mod gathering;
 mod knowledge;
-mod sleeping;
 
 use crate::new_board::{initial_slots, split_all};
 use crate::slot::{Load, SlotValue};

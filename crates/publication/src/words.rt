@@ -28,13 +28,3 @@ pub const CLOSED: u64 = 4;
 
 /// State word of a record: no call is pending, and the record is on the publication list.
 pub const EMPTY: u64 = 5;
-
-/// How far a record's sleep word lies behind its state word. The board's sleep word lies as far behind the lock word.
-pub const SLEEP: usize = 2;
-
-/// Sleep word of a record: its session's thread is awake, or was roused. Sleep word of the board: no session's thread
-/// sleeps, except those that a seat is about to look at.
-pub const AWAKE: u64 = 0;
-
-/// Sleep word of a record: its session's thread may sleep. Sleep word of the board: some session's thread may.
-pub const ASLEEP: u64 = 1;

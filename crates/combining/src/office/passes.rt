@@ -84,7 +84,7 @@ impl<O: Batching> Office<O> {
         requires bound { O.bound made.load.value.object ≡ self.now.bound }
         requires taken { session.old.taken ≡ made.load.value.pieces.items }
         ensures ours { IsSessionOf self.now session.new }
-        ensures session { session.new ≡ record session.old { has_object = false; route = []; taken = []; looks = true } }
+        ensures session { session.new ≡ record session.old { has_object = false; route = []; taken = [] } }
         ensures calls { HasCallsOf session.new.front session.new }
         ensures turn { result ≡ Turn.Pass made.pass.served made.pass.starved made.pass.left }
     {

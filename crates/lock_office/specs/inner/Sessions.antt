@@ -4,10 +4,9 @@ use Rattle.lock_rules.specs.declared.calls.Call.{Call}
 use Rattle.lock_programs.specs.declared.program.Program.{Program}
 use Rattle.lock_programs.specs.Calls.{calls_of}
 use Rattle.publication.specs.Views.{asks}
-use Rattle.lock_office.specs.ProgramBoards.{TicketView, KnowledgeView}
+use Rattle.lock_office.specs.ProgramBoards.{TicketView}
 use Rattle.lock_office.specs.Seen.{number_of_calls}
 use Rattle.lock_office.specs.declared.session.Session.TheInside.{Inside}
-use Rattle.lock_office.specs.declared.session.knowing.Knowledge.TheInside.{Inside as InsideOfKnowledge}
 
 -- what contracts see of the session
 abbrev pub session_of : Inside → TicketView
@@ -26,11 +25,3 @@ IsReadable s = (program : Program) (floor : ℕ) → s.session.pending ≡ Some 
 pub record IsKept (s : Inside) : Type 0 where
   pub readable : IsReadable s
   pub counted : s.seen ≡ number_of_calls s.session.front
-
--- what contracts see of its knowledge
-abbrev pub knowledge_of : InsideOfKnowledge → KnowledgeView
-knowledge_of k = k.knowledge
-
--- the calls that it knows are counted
-abbrev pub IsCounted : InsideOfKnowledge → Type 0
-IsCounted k = k.seen ≡ number_of_calls k.knowledge.front

@@ -90,10 +90,10 @@ pub(crate) fn seen_next(seen: u64, program: &Program, next: &CallOutcome<Program
     ensures answered { (answer : _) → next.now ≡ CallOutcome.Answered answer
         → result ≡ max seen (min (answer.reply.first + length (replies_of program.now answer.reply)) (2 ^ 64 - 1)) }
     ensures starved { next.now ≡ CallOutcome.Starved → result ≡ seen }
-    ensures waits { (w : _) → next.now ≡ CallOutcome.Wait w → result ≡ seen }
+    ensures waits { next.now ≡ CallOutcome.Wait → result ≡ seen }
 {
     match next {
         CallOutcome::Answered(found) => seen_behind(seen, program, &found.reply),
-        CallOutcome::Starved | CallOutcome::Wait(_) => seen,
+        CallOutcome::Starved | CallOutcome::Wait => seen,
     }
 }

@@ -1,13 +1,11 @@
 //! A whole program of a session, turn by turn.
 
-ghost use Rattle.std.specs.Prelude.{◌≡◌, ◌≢◌, ◌+◌, ◌%◌, ◌<◌, ◌≤◌, ℕ, true, false, Some, None, length};
+ghost use Rattle.std.specs.Prelude.{◌≡◌, ◌≢◌, ◌+◌, ◌<◌, ◌≤◌, ℕ, true, false, Some, None, length};
 ghost use Rattle.publication.specs.Views.{asks};
-ghost use Rattle.combining.specs.declared.backoff.TheConstants.{LOOKS_PER_TRY};
 ghost use Rattle.combining.specs.Calls.{IsCalling};
-ghost use Rattle.combining.specs.Turns.{HasAwaited, HasTurned};
+ghost use Rattle.combining.specs.Turns.{HasAttempted, HasAwaited};
 ghost use Rattle.combining.specs.Woken.{HasAddedTold, HasRoom, entered_since};
 ghost use Rattle.combining.specs.Rounds.{most_of};
-ghost use Rattle.combining.specs.Waits.{IsWaitAfterLook, IsWaitAfterTurn};
 ghost use Rattle.lock_programs.specs.declared.program.Program.{Program as ProgramValue};
 ghost use Rattle.lock_programs.specs.Calls.{calls_of};
 ghost use Rattle.lock_office.specs.Sessions.{IsSessionOf, IsIdle};
@@ -39,44 +37,38 @@ impl Session {
         self.pending_program().length() == 1
     }
 
-    /// Makes one turn of a program that makes a call, as `combining::turn` does: it goes on with the pending program, if there is one, whatever
-    /// `program` is. The answer is read by the program that the turn goes on with.
+    /// Tries once to perform the program of an idle session at once, as `combining::attempt` does. The program makes a call.
     #[inline(always)]
-    pub fn run_turn<T: Listener<Programs<Book>>>(
+    pub fn run_attempt<T: Listener<Programs<Book>>>(
         &mut self,
         office: &Office,
         program: &Program,
-        made: u64,
         bound: PassBound,
         listener: &mut WithSeen<T>,
     ) -> CallOutcome<ProgramAnswer>
         requires ours { IsSessionOf office.now self.old }
-        requires live { self.old.retired ≡ false }
+        requires idle { IsIdle self.old }
         requires some { 0 < length (calls_of program.now) }
         requires room { HasRoom (T.room listener.old.listener) office.now.sessions }
         ensures ours { IsSessionOf office.now self.new }
-        ensures turned { HasTurned self.old self.new office.now.sessions made (IsCalled self.old self.new program.now) (IsAnswered self.old self.new)
+        ensures attempted { HasAttempted self.old self.new office.now.sessions (IsCalled self.old self.new program.now)
             (IsCalling self.old self.new program.now) (HasStarvedCalling self.old self.new program.now) result }
-        ensures wait { (w : _) → result ≡ CallOutcome.Wait w → IsWaitAfterTurn (self.old.pending ≡ None) made w }
         ensures few { length (entered_since self.old self.new) ≤ most_of bound + 1 }
         ensures told { HasAddedTold T.ends office.now.sessions self.new.front (entered_since self.old self.new) (T.list listener.old.listener) (T.list listener.new.listener) }
         ensures room { T.room listener.new.listener ≡ T.room listener.old.listener }
     {
-        if !self.is_idle() {
-            return self.run_look(office, made, bound, listener);
-        }
         self.asked = *program;
         listener.seen = self.seen;
-        let next = combining::turn(office, &mut self.session, program, made, bound, listener);
+        let next = combining::attempt(office, &mut self.session, program, bound, listener);
         self.seen = seen_next(listener.seen, program, &next);
         next
     }
 
-    /// Makes one turn of the pending program, as `combining::look` does.
+    /// Makes one turn of the pending program, as `combining::look` does. The answer is read by the program that is pending.
     pub fn run_look<T: Listener<Programs<Book>>>(
         &mut self,
         office: &Office,
-        looked: u64,
+        tries: bool,
         bound: PassBound,
         listener: &mut WithSeen<T>,
     ) -> CallOutcome<ProgramAnswer>
@@ -85,15 +77,14 @@ impl Session {
         requires room { HasRoom (T.room listener.old.listener) office.now.sessions }
         ensures ours { IsSessionOf office.now self.new }
         ensures awaited { HasAwaited self.old self.new (IsAnswered self.old self.new) result }
-        ensures others { (w : _) → result ≡ CallOutcome.Wait w → looked % LOOKS_PER_TRY ≡ 0 → 1 < office.now.sessions }
-        ensures wait { (w : _) → result ≡ CallOutcome.Wait w → IsWaitAfterLook looked w }
+        ensures others { result ≡ CallOutcome.Wait → tries ≡ true → 1 < office.now.sessions }
         ensures few { length (entered_since self.old self.new) ≤ most_of bound }
         ensures told { HasAddedTold T.ends office.now.sessions self.new.front (entered_since self.old self.new) (T.list listener.old.listener) (T.list listener.new.listener) }
         ensures room { T.room listener.new.listener ≡ T.room listener.old.listener }
     {
         let asked = self.asked;
         listener.seen = self.seen;
-        let next = combining::look(office, &mut self.session, looked, bound, listener);
+        let next = combining::look(office, &mut self.session, tries, bound, listener);
         self.seen = seen_next(listener.seen, &asked, &next);
         next
     }
@@ -107,7 +98,6 @@ impl Session {
         ensures published { self.old.pending ≡ None → IsCalling self.old self.new program }
         ensures same { self.old.pending ≢ None → self.new ≡ self.old }
         ensures known { (self.new.front ≡ self.old.front) × (self.new.entered ≡ self.old.entered) }
-        ensures tries { self.new.tries ≤ self.old.tries + 1 }
     {
         if !self.session.is_idle() {
             return;

@@ -43,12 +43,6 @@ module _ {O C R : Type 0} where
     entered = t.seat.me.0.combiner.entered;
     pieces = t.seat.me.0.pieces.own;
     taken = t.seat.me.0.pieces.all;
-    down = t.seat.me.0.sleep.down;
-    saw = t.seat.me.0.sleep.saw;
-    sleeps = t.seat.me.0.sleep.sleeps;
-    asked = t.seat.me.0.sleep.asked;
-    looks = t.seat.me.0.sleep.looks;
-    ended = t.seat.me.0.sleep.ended;
   }
 
   -- The ticket's number is one of the board's sessions, and its seat is in the state that its fields record.

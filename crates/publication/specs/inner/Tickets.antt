@@ -42,7 +42,6 @@ module _ {O C R : Type 0} where
     pub whole : m.0.listing.off ≡ 0
     pub routed : has_object ≡ false → m.0.listing.route ≡ []
     pub unknown : has_object ≡ false → m.0.pieces.all ≡ []
-    pub sweeps : m.0.sleep.sweeps ≤ 1
     pub carried : m.1 ≡ object_slot has_object (own_slot is_pending number)
 
 module _ {C R : Type 0} where

@@ -53,7 +53,7 @@ impl<O: Sequential> Board<O> {
 
     /// Gives the object back and stops being the combiner. Needs the history that the board has, an empty row,
     /// and no record opened. The load notes the pieces of the history that were taken before, and behind them those
-    /// that this session took as the combiner. The session then has to look whether a session sleeps (`rouse_sleepers`).
+    /// that this session took as the combiner.
     pub fn release(&self, ticket: &mut Ticket<O>, load: Box<Load<O>>)
         requires ours { IsOf self.now ticket.old }
         requires has { ticket.old.has_object ≡ true }
@@ -66,7 +66,6 @@ impl<O: Sequential> Board<O> {
           route = [];
           pieces = ticket.old.pieces ++ added ticket.old.taken load.value.pieces.items;
           taken = [];
-          looks = true;
         } }
         ensures calls { HasCallsOf ticket.new.front ticket.new }
     {

@@ -25,7 +25,7 @@ returns-in-Some-clause-awaited g c =
       answered = λ answer is. let same : a ≡ answer = cc is in subst (λ (x : Answer _). IsAnswered g.O.Sequential t v x.place x.reply) same (collects t u v a.place a.reply waits got);
       idle = λ answer is. c.in-Some.ensures.idle;
       starved = λ is. absurd (cc is);
-      waits = λ wait is. absurd (cc is);
+      waits = λ is. absurd (cc is);
       on = on-trans t u v (waiting-on t u waits) (collected-on u v a.place a.reply got);
     }
 

@@ -2,23 +2,11 @@ use Rattle.std.proofs.Common.{◌≤◌, ◌*◌, ◌++◌, ℕ, length, refl, s
 use Rattle.combining.specs.Rounds.{most_of}
 use Rattle.combining.specs.declared.bounds.PassBound.{PassBound}
 use Rattle.combining.proofs.Places.{entered-count}
-use Rattle.combining.proofs.Turns.{waiting-passed, tries-passed, tries-tried, listed-passed, listed-tried}
+use Rattle.combining.proofs.Turns.{waiting-passed}
 use Rattle.combining.proofs.calling.pass_if.Goals as goal
 
 pub returns-in-Pass-clause-waits : goal.returns-in-Pass-clause-waits
 returns-in-Pass-clause-waits g c = waiting-passed c.args.session.now c.pass.new.session c.in-Pass.served (c.in-Pass.ensures.pass c.in-Pass.served c.in-Pass.starved c.in-Pass.left refl)
-
-pub returns-in-Pass-clause-tries : goal.returns-in-Pass-clause-tries
-returns-in-Pass-clause-tries g c = tries-passed c.args.session.now c.pass.new.session c.in-Pass.served (c.in-Pass.ensures.pass c.in-Pass.served c.in-Pass.starved c.in-Pass.left refl)
-
-pub returns-in-Elsewhere-clause-tries : goal.returns-in-Elsewhere-clause-tries
-returns-in-Elsewhere-clause-tries g c = tries-tried c.args.session.now c.pass.new.session (c.pass.ensures.elsewhere c.in-Elsewhere.is).0
-
-pub returns-in-Pass-clause-listed : goal.returns-in-Pass-clause-listed
-returns-in-Pass-clause-listed g c listed = listed-passed c.args.session.now c.pass.new.session c.in-Pass.served listed (c.in-Pass.ensures.pass c.in-Pass.served c.in-Pass.starved c.in-Pass.left refl)
-
-pub returns-in-Elsewhere-clause-listed : goal.returns-in-Elsewhere-clause-listed
-returns-in-Elsewhere-clause-listed g c listed = listed-tried c.args.session.now c.pass.new.session listed (c.pass.ensures.elsewhere c.in-Elsewhere.is).0
 
 pub returns-in-Pass-clause-few : goal.returns-in-Pass-clause-few
 returns-in-Pass-clause-few g c =

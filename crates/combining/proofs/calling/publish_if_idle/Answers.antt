@@ -1,5 +1,5 @@
 use Rattle.std.proofs.Common.{inr, refl}
-use Rattle.combining.proofs.Turns.{posted-cases, posted-waits, posted-same, published, tries-posted}
+use Rattle.combining.proofs.Turns.{posted-cases, posted-waits, posted-same, published}
 use Rattle.combining.proofs.calling.publish_if_idle.Goals as goal
 
 pub returns-then-is_idle-clause-published : goal.returns-then-is_idle-clause-published
@@ -13,8 +13,3 @@ pub returns-then-is_idle-clause-known : goal.returns-then-is_idle-clause-known
 returns-then-is_idle-clause-known g c =
     let p = c.publish-posted.ensures in
     posted-same c.args.session.now c.publish-posted.new.session c.args.call (posted-cases c.publish-posted.result p.listed p.unlisted)
-
-pub returns-then-is_idle-clause-tries : goal.returns-then-is_idle-clause-tries
-returns-then-is_idle-clause-tries g c =
-    let p = c.publish-posted.ensures in
-    tries-posted c.args.session.now c.publish-posted.new.session c.args.call (posted-cases c.publish-posted.result p.listed p.unlisted)

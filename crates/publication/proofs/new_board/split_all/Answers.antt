@@ -1,4 +1,4 @@
-use Rattle.std.proofs.Common.{rules, ◌≡◌, ◌∷◌, ◌++◌, ◌∙◌, ◌+◌, ℕ, List, [], length, length-append, sym, ap, subst, arith, refl}
+use Rattle.std.proofs.Common.{rules, ◌≡◌, ◌∷◌, ◌++◌, ◌∙◌, ◌+◌, ℕ, List, [], length, length-append, sym, ap, subst, arith}
 use Rattle.atomic_table.specs.Table.{Splits}
 use Rattle.atomic_table.specs.declared.shared.Seat.{Seat}
 use Rattle.publication.specs.Rule.{maker, new_session}
@@ -16,7 +16,7 @@ pub split_seat-requires : goal.split_seat-requires
 split_seat-requires g c = let first = c.loop-made.first in let i = c.loop-made.invariant in let n = c.args.sessions in (
   search rules,
   search rules,
-  subst (λ (v : View _ _). Splits (IsBounded g.O.Sequential (bound_of g.O.Sequential.bound c.args.shared.now.key.object.items)) first.id v (maker v.slots (v.made + 1)) (new_session v.slots (v.made + 1))) (sym (ap (λ (m : Seated _ _ _). m.0) i.2)) (splits_bounded refl refl (enrols first.id (n + 1) c.loop-made._made i.1 (omega (arith, c.loop-made-test.true)))),
+  subst (λ (v : View _ _). Splits (IsBounded g.O.Sequential (bound_of g.O.Sequential.bound c.args.shared.now.key.object.items)) first.id v (maker v.slots (v.made + 1)) (new_session v.slots (v.made + 1))) (sym (ap (λ (m : Seated _ _ _). m.0) i.2)) (splits_bounded (enrols first.id (n + 1) c.loop-made._made i.1 (omega (arith, c.loop-made-test.true)))),
 )
 
 pub loop-made-preserved : goal.loop-made-preserved

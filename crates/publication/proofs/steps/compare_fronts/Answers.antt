@@ -16,10 +16,10 @@ use Rattle.publication.proofs.steps.compare_fronts.Goals as goal
 module _ {C R : Type 0} where
   -- Joining a copy of a front alone notes the front, and nothing else.
   notes : (v w : View C R) → joined v (front_copy_of w) ≡ comparing v w
-  notes v w = ap (λ (hs : List ℕ). as_hearer v v.front hs (record { all_made = v.others.all_made || true; beside = w.front; handed = v.others.handed; logs = v.others.logs }) v.sleep) (maxes-none v.heard)
+  notes v w = ap (λ (hs : List ℕ). as_hearer v v.front hs (record { all_made = v.others.all_made || true; beside = w.front; handed = v.others.handed; logs = v.others.logs })) (maxes-none v.heard)
 
 pub split_seat-copy-requires : goal.split_seat-copy-requires
-split_seat-copy-requires g c = (search rules, search rules, splits_bounded refl refl (splits_front c.args.other.now.id c.args.other.now.me.0 c.requires.made))
+split_seat-copy-requires g c = (search rules, search rules, splits_bounded (splits_front c.args.other.now.id c.args.other.now.me.0 c.requires.made))
 
 pub join_seat-requires : goal.join_seat-requires
 join_seat-requires g c = let v = c.args.seat.now.me.0 in let w = c.args.other.now.me.0 in let copy = c.split_seat-copy.result in let me : copy.me ≡ (front_copy_of w, []) = search rules in (
@@ -27,7 +27,7 @@ join_seat-requires g c = let v = c.args.seat.now.me.0 in let w = c.args.other.no
   search rules,
   ap (λ (m : Seated _ _ _). m.1) me,
   search rules,
-  subst (λ (m : Seated _ _ _). Joins (IsBounded g.O.Sequential (bound_of g.O.Sequential.bound c.args.shared.now.key.object.items)) c.args.seat.now.id v copy.id m.0 (joined v m.0) blank) (sym me) (joins_bounded refl refl (joins_copy c.args.seat.now.id v copy.id (front_copy_of w) refl refl refl refl (refl, refl))),
+  subst (λ (m : Seated _ _ _). Joins (IsBounded g.O.Sequential (bound_of g.O.Sequential.bound c.args.shared.now.key.object.items)) c.args.seat.now.id v copy.id m.0 (joined v m.0) blank) (sym me) (joins_bounded (joins_copy c.args.seat.now.id v copy.id (front_copy_of w) refl refl refl refl (refl, refl))),
 )
 
 pub load-requires : goal.load-requires

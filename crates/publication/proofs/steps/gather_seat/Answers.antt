@@ -9,7 +9,7 @@ use Rattle.publication.specs.declared.slot.SlotValue.{SlotValue}
 use Rattle.publication.specs.declared.slot.SlotValue.TheVariants.{Empty}
 use Rattle.publication.proofs.RecordStates.{lacks}
 use Rattle.publication.proofs.SessionKinds.{leave_kept}
-use Rattle.publication.proofs.LaidDown.{gathers_bounded}
+use Rattle.publication.proofs.LaidDown.{joins_bounded}
 use Rattle.publication.proofs.SplitsAndJoins.{gathers}
 use Rattle.publication.proofs.steps.gather_seat.Goals as goal
 
@@ -46,5 +46,5 @@ join_seat-requires g c = let v = c.args.seat.now.me.0 in let w = c.args.other.me
       search rules,
       ap (λ (x : Seated _ _ _). x.1) after,
       search rules,
-      subst (λ (x : Seated _ _ _). Joins (IsBounded g.O.Sequential (bound_of g.O.Sequential.bound c.args.shared.now.key.object.items)) c.args.seat.now.id v id x.0 (gathered v x.0) blank) (sym after) (gathers_bounded refl (gathers c.args.seat.now.id v id (leaving w) c.requires.closing named refl c.requires.settled.1)),
+      subst (λ (x : Seated _ _ _). Joins (IsBounded g.O.Sequential (bound_of g.O.Sequential.bound c.args.shared.now.key.object.items)) c.args.seat.now.id v id x.0 (gathered v x.0) blank) (sym after) (joins_bounded (gathers c.args.seat.now.id v id (leaving w) c.requires.closing named refl c.requires.settled.1)),
     )

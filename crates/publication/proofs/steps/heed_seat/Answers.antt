@@ -15,7 +15,7 @@ join_seat-requires g c = let v = c.args.seat.now.me.0 in let copy = c.args.copy 
   search rules,
   ap (λ (m : Seated _ _ _). m.1) me,
   search rules,
-  subst (λ (m : Seated _ _ _). Joins (IsBounded g.O.Sequential (bound_of g.O.Sequential.bound c.args.shared.now.key.object.items)) c.args.seat.now.id v copy.id m.0 (joined v m.0) blank) (sym me) (joins_bounded refl refl (joins_copy c.args.seat.now.id v copy.id (copy_of copy.me.0) refl refl refl refl (refl, refl))),
+  subst (λ (m : Seated _ _ _). Joins (IsBounded g.O.Sequential (bound_of g.O.Sequential.bound c.args.shared.now.key.object.items)) c.args.seat.now.id v copy.id m.0 (joined v m.0) blank) (sym me) (joins_bounded (joins_copy c.args.seat.now.id v copy.id (copy_of copy.me.0) refl refl refl refl (refl, refl))),
 )
 
 pub load-requires : goal.load-requires

@@ -26,9 +26,9 @@ invariant_of-self g c =
       readable = readable-on n c.self.inside t c.self.invariant.readable (ap (λ (x : TicketView). x.pending) (e.awaited.starved is).0.session);
       counted = seen.starved is ∙ e.notes_starved is c.self.invariant.counted;
     })
-    (λ w is. record {
-      readable = readable-on n c.self.inside t c.self.invariant.readable (ap (λ (x : TicketView). x.pending) (e.awaited.waits w is).session);
-      counted = seen.waits w is ∙ e.notes_waits w is c.self.invariant.counted;
+    (λ is. record {
+      readable = readable-on n c.self.inside t c.self.invariant.readable (ap (λ (x : TicketView). x.pending) (e.awaited.waits is).session);
+      counted = seen.waits is ∙ e.notes_waits is c.self.invariant.counted;
     })
 
 pub returns-clause-awaited : goal.returns-clause-awaited

@@ -32,7 +32,6 @@ module _ {O C R : Type 0} where
         whole = t.whole;
         routed = t.routed;
         unknown = t.unknown;
-        sweeps = t.sweeps;
         carried = t.carried;
       }
 
@@ -49,6 +48,6 @@ invariant_of-ticket g c =
             (won a.seat.me a.number a.seen a.has_object a.is_listed a.is_retired (subst (λ (p : Bool). IsBetweenCalls a.seat.me a.number a.seen a.has_object p a.is_listed a.is_retired) waits t)))
         | false ↦ λ e. subst (λ (x : Seated _ _ _). IsBetweenCalls x a.number a.seen a.has_object a.is_pending false a.is_retired) (sym (c.enlist_record-ticket-inside.ensures.lost e).0)
             (subst (λ (l : Bool). IsBetweenCalls (losing_head a.seat.me.0, a.seat.me.1) a.number a.seen a.has_object a.is_pending l a.is_retired) unlisted
-            (still-between a.seat.me a.number a.seen a.seen a.has_object a.is_pending a.is_listed a.is_retired t a.seat.me.0.front a.seat.me.0.combiner (losing_head a.seat.me.0).listing a.seat.me.0.sleep t.seen_is t.accounted t.object t.hand refl t.whole t.routed t.sweeps))
+            (still-between a.seat.me a.number a.seen a.seen a.has_object a.is_pending a.is_listed a.is_retired t a.seat.me.0.front a.seat.me.0.combiner (losing_head a.seat.me.0).listing t.seen_is t.accounted t.object t.hand refl t.whole t.routed))
       ]) refl;
     }

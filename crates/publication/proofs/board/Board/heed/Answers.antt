@@ -32,7 +32,6 @@ invariant_of-ticket g c = let a = c.ticket.inside in let b = c.knowledge.inside 
             all_made = ap (λ (x : Bool). x || true) t.all_made;
             accounted = c.heed_seat.ensures.learned.accounted t.accounted;
             unknown = t.unknown;
-            sweeps = t.sweeps;
             carried = t.carried;
           };
     }

@@ -27,5 +27,5 @@ invariant_of-ticket-2 g c =
     record {
       small = search rules;
       settled = subst (λ (x : Seated _ _ _). IsBetweenCalls x n c.max-ticket-inside.result b false a.is_listed a.is_retired) (sym after)
-          record { number_is = t.number_is; some_number = t.some_number; seen_is = omega (arith, e.5.long, t.seen_is, c.max-ticket-inside.ensures); started = refl; retired = t.retired; pending = refl; object = t.object; hand = t.hand; heard_few = omega (arith, t.heard_few, at_most_one a.is_pending, longer); listed = t.listed; heard = λ p. absurd (cc p); no_head_seen = refl; whole = t.whole; routed = t.routed; wide = t.wide; all_made = t.all_made; accounted = inl e.5.calls; unknown = t.unknown; sweeps = t.sweeps; carried = refl };
+          record { number_is = t.number_is; some_number = t.some_number; seen_is = omega (arith, e.5.long, t.seen_is, c.max-ticket-inside.ensures); started = refl; retired = t.retired; pending = refl; object = t.object; hand = t.hand; heard_few = omega (arith, t.heard_few, at_most_one a.is_pending, longer); listed = t.listed; heard = λ p. absurd (cc p); no_head_seen = refl; whole = t.whole; routed = t.routed; wide = t.wide; all_made = t.all_made; accounted = inl e.5.calls; unknown = t.unknown; carried = refl };
     }
