@@ -67,20 +67,20 @@ uint32_t pelgaisti_raw_session_publish(pelgaisti_session **session, const pelgai
 /* `told` gets how many sessions are to be woken after the pass: it is written with OK, and with ELSEWHERE, which is 0.
    pelgaisti_raw_session_told tells which they are, until the session's next try to make a pass. */
 uint32_t pelgaisti_raw_session_serve(pelgaisti_session **session, pelgaisti_pass **pass, size_t *told);
-/* One turn of a call, behind `made` turns, of at most `turns`. PENDING comes only if `made` is 0. `told` is written with OK, NO_MEMORY and
-   NOT_SERVED. With NO_MEMORY the call is pending. With NOT_SERVED there is no answer yet, and `wait` is written: what to do before
-   the next turn; 0: no turn is left, and the call is pending; UINT32_MAX: yield the processor; else so many pause instructions. */
-uint32_t pelgaisti_raw_session_turn(pelgaisti_session **session, const pelgaisti_call **call, uint64_t made, uint64_t turns,
-                                    pelgaisti_answer **answer, uint32_t *wait, size_t *told);
-/* The same of the call that is pending, behind `looked` turns. */
-uint32_t pelgaisti_raw_session_resume(pelgaisti_session **session, uint64_t looked, uint64_t turns, pelgaisti_answer **answer,
-                                      uint32_t *wait, size_t *told);
-/* One turn of a program, behind `made` turns, of at most `turns`. It writes as pelgaisti_raw_session_turn does. */
-uint32_t pelgaisti_raw_session_run_turn(pelgaisti_session **session, const pelgaisti_program **program, uint64_t made,
-                                        uint64_t turns, pelgaisti_program_answer **answer, uint32_t *wait, size_t *told);
-/* The same of what is pending, behind `looked` turns. */
-uint32_t pelgaisti_raw_session_run_resume(pelgaisti_session **session, uint64_t looked, uint64_t turns,
-                                          pelgaisti_program_answer **answer, uint32_t *wait, size_t *told);
+/* Begins a call of a session that has none pending; else PENDING. If `tries` isn't 0, it tries to perform the call at once. NOT_SERVED:
+   another session has the lock table, and nothing has changed, so that the call is not published. If `tries` is 0, it publishes the call,
+   and returns NOT_SERVED: the call is pending. With NO_MEMORY the call is pending. `told` is written with OK, NO_MEMORY and NOT_SERVED. */
+uint32_t pelgaisti_raw_session_turn(pelgaisti_session **session, const pelgaisti_call **call, uint32_t tries,
+                                    pelgaisti_answer **answer, size_t *told);
+/* A turn of the call that is pending: tries for the lock table first, unless `tries` is 0, and looks for the answer. With NOT_SERVED and
+   NO_MEMORY it is still pending. It writes as pelgaisti_raw_session_turn does. */
+uint32_t pelgaisti_raw_session_resume(pelgaisti_session **session, uint32_t tries, pelgaisti_answer **answer, size_t *told);
+/* Begins a program as pelgaisti_raw_session_turn begins a call. */
+uint32_t pelgaisti_raw_session_run_turn(pelgaisti_session **session, const pelgaisti_program **program, uint32_t tries,
+                                        pelgaisti_program_answer **answer, size_t *told);
+/* A turn of what is pending, call or program, as pelgaisti_raw_session_resume makes one. */
+uint32_t pelgaisti_raw_session_run_resume(pelgaisti_session **session, uint32_t tries, pelgaisti_program_answer **answer,
+                                          size_t *told);
 uint32_t pelgaisti_raw_session_collect(pelgaisti_session **session, pelgaisti_answer **answer);
 uint32_t pelgaisti_raw_session_take_history(pelgaisti_session **session, uint64_t **first, pelgaisti_raw_list *entries,
                                             size_t **count);
@@ -94,13 +94,6 @@ uint32_t pelgaisti_raw_session_seen(pelgaisti_session **session, uint64_t **seen
 uint32_t pelgaisti_raw_session_mark(pelgaisti_session **session, uint64_t **mark, uint32_t *number);
 uint32_t pelgaisti_raw_session_waker(pelgaisti_session **session, uint64_t *waker);
 uint32_t pelgaisti_raw_session_told(pelgaisti_session **session, size_t first, uint32_t *list, size_t room, size_t *count);
-/* Begins a sleep, and writes the session's number. `may_sleep` is 1 if its thread may sleep until `.._is_roused` writes 1: some session had
-   the lock table since, whose thread tells of this one by `.._rouse`. 0: the lock table was free. */
-uint32_t pelgaisti_raw_session_begin_sleep(pelgaisti_session **session, uint32_t *number, uint32_t *may_sleep);
-uint32_t pelgaisti_raw_session_is_roused(pelgaisti_session **session, uint32_t *is_roused);
-/* Writes the sessions whose sleep it has ended, whose threads the caller wakes. It comes behind each call by which the session may have had
-   the lock table, and before its thread sleeps. NO_ROOM: fewer than the office has sessions. */
-uint32_t pelgaisti_raw_session_rouse(pelgaisti_session **session, uint32_t *list, size_t room, size_t *count);
 uint32_t pelgaisti_raw_session_hear(pelgaisti_session **session, pelgaisti_session **other);
 uint32_t pelgaisti_raw_session_retire(pelgaisti_session **session);
 uint32_t pelgaisti_raw_session_hand_in(pelgaisti_session **session, pelgaisti_session **to);

@@ -637,53 +637,47 @@ static COLD void give_up_slice(const pelgaisti_session *session) {
 /* The archive's turn, by a copy of the handle. */
 #define TURN(it, how, copy, order, call) \
     ((how) == TRIES ? after_hold((it)->session, CALL_BY_COPY((it)->session, copy, order, call)) : CALL_BY_COPY((it)->session, copy, order, call))
-#define ANY UINT64_MAX
+
 
 #define MAKES static inline __attribute__((always_inline)) pelgaisti_status
 
 /* Begins the call: tries to perform it at once, or publishes it. */
 MAKES begin_call(struct whole_call *it, int how) {
     pelgaisti_session own, *copy = &own;
-    uint32_t wait;
     it->told = 0;
     return TURN(it, how, copy, RELEASES | ACQUIRES,
-                pelgaisti_raw_session_turn(&copy, &it->asked.call, 0, how == TRIES ? 1 : 0, &it->answer.call, &wait, &it->told));
+                pelgaisti_raw_session_turn(&copy, &it->asked.call, how == TRIES, &it->answer.call, &it->told));
 }
 
 MAKES make_turn(struct whole_call *it, int how) {
     pelgaisti_session own, *copy = &own;
     pelgaisti_status status;
-    uint32_t wait;
     if (!it->is_published) {
         status = begin_call(it, how);
         it->is_published = how != TRIES;
         return status;
     }
     it->told = 0;
-    return TURN(it, how, copy, ACQUIRES,
-                pelgaisti_raw_session_resume(&copy, how == TRIES ? 8 : 1, how == DOES_NEITHER ? 0 : ANY, &it->answer.call, &wait, &it->told));
+    return TURN(it, how, copy, ACQUIRES, pelgaisti_raw_session_resume(&copy, how, &it->answer.call, &it->told));
 }
 
 MAKES begin_program(struct whole_call *it, int how) {
     pelgaisti_session own, *copy = &own;
-    uint32_t wait;
     it->told = 0;
     return TURN(it, how, copy, RELEASES | ACQUIRES,
-                pelgaisti_raw_session_run_turn(&copy, &it->asked.program, 0, how == TRIES ? 1 : 0, &it->answer.program, &wait, &it->told));
+                pelgaisti_raw_session_run_turn(&copy, &it->asked.program, how == TRIES, &it->answer.program, &it->told));
 }
 
 MAKES make_run_turn(struct whole_call *it, int how) {
     pelgaisti_session own, *copy = &own;
     pelgaisti_status status;
-    uint32_t wait;
     if (!it->is_published) {
         status = begin_program(it, how);
         it->is_published = how != TRIES;
         return status;
     }
     it->told = 0;
-    return TURN(it, how, copy, ACQUIRES,
-                pelgaisti_raw_session_run_resume(&copy, how == TRIES ? 8 : 1, how == DOES_NEITHER ? 0 : ANY, &it->answer.program, &wait, &it->told));
+    return TURN(it, how, copy, ACQUIRES, pelgaisti_raw_session_run_resume(&copy, how, &it->answer.program, &it->told));
 }
 
 pelgaisti_status pelgaisti_session_perform(pelgaisti_session *session, const pelgaisti_call *call, uint64_t turns,
@@ -800,7 +794,7 @@ pelgaisti_status pelgaisti_session_look(pelgaisti_session *session, pelgaisti_bo
     if (use_too(view)) return PELGAISTI_COPIED;
     if (session && !is_astray(session)) let_others_first(session);
     status = make_look(&it, TRIES);
-    if (status == PELGAISTI_NOT_SERVED) status = want(&it, make_look, ANY);
+    if (status == PELGAISTI_NOT_SERVED) status = want(&it, make_look, UINT64_MAX);
     return noting(view, IS_WATCHED ? acquire_look(session, mark, status) : status);
 }
 
