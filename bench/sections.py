@@ -326,7 +326,7 @@ class Threads(Section):
     # workload, nanoseconds of work before each path, place of the threads
     LOADS = {("bank", "0", place): place for place in ("pinned", "free", "robbed")}
     # the numbers of threads that bench/README.md has of each place
-    SHOWN_COUNTS = {"pinned": THREADS, "free": (4, 16, 64), "robbed": (4, 16, 64)}
+    SHOWN_COUNTS = {"pinned": THREADS, "free": (16, 64), "robbed": (4, 16)}
     WAYS = {
         "calls": "office, single calls",
         "programs": "**office, programs**",
@@ -342,7 +342,7 @@ class Threads(Section):
         "berkeley": "Berkeley DB",
     }
     # those that bench/README.md has
-    SHOWN = ("calls", "programs", "mutex-calls", "mutex", "barging", "ccsynch", "server", "spins", "berkeley")
+    SHOWN = ("calls", "programs", "mutex-calls", "mutex", "ccsynch", "server")
     # what is told of a run: the digits behind the point, and by how much it is divided
     TIMES = {name: (1, 1000) for name in ("median", "99th", "999th")}
     NUMBERS = {"second": (0, 1000), "processor": (1, 1000), "switches": (0,), **TIMES, "least": (0,), "most": (0,)}
@@ -479,15 +479,15 @@ class Engine(Section):
 
 class Looks(Section):
     name, heading, needs = "looks", "How long a monitor waits: `bench/looks.c`", (LIBRARY,)
-    how = "Looks at an office whose threads make transfers by programs, one each 200 µs if none took longer, for a quarter of a second."
+    how = "Looks at an office whose threads make transfers by programs, one each 200 µs; and how many of 100 takes of history are OK."
     MILLISECONDS, THREADS = 250, (1, 4, 16, 64)
     COLUMNS = {
         "looks": ("looks", 0, 1),
         "median, µs": ("median", 1, 1000),
         "99th of 100": ("99th", 1, 1000),
         "longest": ("longest", 1, 1000),
-        "thousands of transfers a second": ("second", 0, 1000),
-        "of 100 tries to take history, OK": ("taken", 0, 10),
+        "transfers a second, thousands": ("second", 0, 1000),
+        "takes in 100": ("taken", 0, 10),
     }
 
     def cases(self):
