@@ -312,7 +312,7 @@ static void sleepers(void) {
     end_callers(CALLERS);
 }
 
-/* ---- Looks, and who takes the history. ---- */
+/* ---- Looks, and whoever takes the history. ---- */
 
 static double look_once(pelgaisti_session *session, double milliseconds) {
     const double begun = now();
@@ -404,15 +404,16 @@ static void *take_in_circle(void *at) {
     return NULL;
 }
 
-/* Who takes the history while its own thread looks is told so, and the door is open then. While another tries for the table, calls stand back,
-   also one that needs no table. */
+/* Whoever takes the history while its own thread looks is told so, and the door is open then. While another tries for the table, calls stand
+   back, also one that needs no table: so some hundred are made in ten milliseconds, and not many thousands. */
 static void takes_are_given_up(void) {
+    enum { WINDOWS = 9 };
+    double calls[WINDOWS];
     pelgaisti_book view = PELGAISTI_EMPTY;
     const pelgaisti_call poll = {PELGAISTI_POLL, 0, {0, {0}}};
     pelgaisti_answer answer;
     pthread_t thread;
     double begun, took;
-    int quick = 0;
     open_for(3);
     look(&s[0], &view);
     begun = now();
@@ -425,12 +426,12 @@ static void takes_are_given_up(void) {
     MUST(pelgaisti_session_publish(&s[2], &poll, NULL) == PELGAISTI_OK);
     MUST(pthread_create(&thread, NULL, take_in_circle, &s[1]) == 0);
     pause_for(5);
-    for (int k = 0; k < 300; k++) {
+    for (int k = 0; k < WINDOWS; k++) {
         begun = now();
-        MUST(pelgaisti_session_perform(&s[2], NULL, 1, &answer) == PELGAISTI_NOT_SERVED);
-        quick += now() - begun < 0.02;
+        for (calls[k] = 0; now() - begun < 10; calls[k]++) MUST(pelgaisti_session_perform(&s[2], NULL, 1, &answer) == PELGAISTI_NOT_SERVED);
     }
-    CHECK(quick < 150);
+    sort(calls, WINDOWS);
+    CHECK(calls[WINDOWS / 2] < 1000);
     end_one(thread);
     end_look(&s[0], &view);
     CHECK(pelgaisti_session_perform(&s[2], NULL, 9, &answer) == PELGAISTI_OK);

@@ -94,13 +94,6 @@ uint32_t pelgaisti_raw_session_seen(pelgaisti_session **session, uint64_t **seen
 uint32_t pelgaisti_raw_session_mark(pelgaisti_session **session, uint64_t **mark, uint32_t *number);
 uint32_t pelgaisti_raw_session_waker(pelgaisti_session **session, uint64_t *waker);
 uint32_t pelgaisti_raw_session_told(pelgaisti_session **session, size_t first, uint32_t *list, size_t room, size_t *count);
-/* Begins a sleep, and writes the session's number. `may_sleep` is 1 if its thread may sleep until `.._is_roused` writes 1: some session had
-   the lock table since, whose thread tells of this one by `.._rouse`. 0: the lock table was free. */
-uint32_t pelgaisti_raw_session_begin_sleep(pelgaisti_session **session, uint32_t *number, uint32_t *may_sleep);
-uint32_t pelgaisti_raw_session_is_roused(pelgaisti_session **session, uint32_t *is_roused);
-/* Writes the sessions whose sleep it has ended, whose threads the caller wakes. It comes behind each call by which the session may have had
-   the lock table, and before its thread sleeps. NO_ROOM: fewer than the office has sessions. */
-uint32_t pelgaisti_raw_session_rouse(pelgaisti_session **session, uint32_t *list, size_t room, size_t *count);
 uint32_t pelgaisti_raw_session_hear(pelgaisti_session **session, pelgaisti_session **other);
 uint32_t pelgaisti_raw_session_retire(pelgaisti_session **session);
 uint32_t pelgaisti_raw_session_hand_in(pelgaisti_session **session, pelgaisti_session **to);
