@@ -13,7 +13,7 @@
 #include <sys/wait.h>
 #include <unistd.h>
 
-enum { MOST = 256, EACH = 4, KEPT = 1024, ONE_IN = 32, WARM = 20000 };
+enum { MOST = 256, EACH = 4, KEPT = 1024, ONE_IN = 6, WARM = 20000 };
 
 static int passed, failed;
 #define CHECK(condition) \
@@ -27,8 +27,9 @@ static int passed, failed;
     } while (0)
 
 static pelgaisti_session s[MOST * EACH];
-static int is_over, refuses;
-static uint64_t allocations, refused, sleeps, wakes, told;
+static int is_over, refuses, is_slow_to_come;
+static uint64_t allocations, refused, starved, sleeps, returned;
+static __thread uint64_t own_wakes;
 
 /* ---- What the library calls: allocations, which are refused now and then, and sleeps in the kernel, which are counted. ---- */
 
@@ -56,11 +57,15 @@ void *__wrap_malloc(size_t size) { return is_refused() ? NULL : __real_malloc(si
 
 void *__wrap_realloc(void *at, size_t size) { return is_refused() ? NULL : __real_realloc(at, size); }
 
-/* Holds up every eighth thread that is about to sleep, so that it is called up before. */
+/* Holds up every eighth thread that is about to sleep, so that it is called up before; and, if they are to be slow, each that was called up. */
 long __wrap_syscall(long number, long a, long b, long c, long d, long e, long f) {
-    if (number == SYS_futex && b == FUTEX_WAIT_PRIVATE && __atomic_add_fetch(&sleeps, 1, __ATOMIC_RELAXED) % 8 == 0) pause_for(0.05);
-    if (number == SYS_futex && b == FUTEX_WAKE_PRIVATE) count(&wakes);
-    return __real_syscall(number, a, b, c, d, e, f);
+    const int sleeps_now = number == SYS_futex && b == FUTEX_WAIT_PRIVATE;
+    long result;
+    if (sleeps_now && __atomic_add_fetch(&sleeps, 1, __ATOMIC_RELAXED) % 8 == 0) pause_for(0.05);
+    if (number == SYS_futex && b == FUTEX_WAKE_PRIVATE) own_wakes++;
+    result = __real_syscall(number, a, b, c, d, e, f);
+    if (sleeps_now && __atomic_load_n(&is_slow_to_come, __ATOMIC_RELAXED)) pause_for(0.2);
+    return result;
 }
 
 /* ---- Threads that make transactions. ---- */
@@ -97,7 +102,7 @@ static void call(uint32_t number) {
     lock.resource.numbers[0] = 1 + number;
     begin(own);
     status = pelgaisti_session_perform(own, &lock, UINT64_MAX, &answer);
-    while (status == PELGAISTI_NO_MEMORY) count(&told), status = pelgaisti_session_perform(own, NULL, UINT64_MAX, &answer);
+    while (status == PELGAISTI_NO_MEMORY) count(&starved), status = pelgaisti_session_perform(own, NULL, UINT64_MAX, &answer);
     MUST(status == PELGAISTI_OK && answer.reply.kind == PELGAISTI_GRANTED);
     commit(own);
 }
@@ -152,6 +157,13 @@ static uint64_t end(uint32_t threads) {
     return made;
 }
 
+/* The same of one that goes on until all is over. */
+static void end_one(pthread_t thread) {
+    __atomic_store_n(&is_over, 1, __ATOMIC_RELAXED);
+    MUST(pthread_join(thread, NULL) == 0);
+    __atomic_store_n(&is_over, 0, __ATOMIC_RELAXED);
+}
+
 static void open_for(size_t sessions) { MUST(open_office_with(s, sessions, KEPT, NULL, 0) == PELGAISTI_OK); }
 
 /* Two threads make transactions as fast as they can, until it is known how long calls take. */
@@ -179,7 +191,7 @@ __attribute__((constructor)) static void use_early(void) {
     was_early = 1;
 }
 
-static void early(void) { CHECK(was_early); }
+static void constructed(void) { CHECK(was_early); }
 
 /* ---- Crowds. ---- */
 
@@ -218,7 +230,6 @@ typedef struct caller {
 
 static caller callers[CALLERS];
 static sem_t done;
-static uint64_t returned;
 
 static void wait_for(sem_t *it) {
     while (sem_wait(it) != 0) continue;
@@ -301,7 +312,7 @@ static void sleepers(void) {
     end_callers(CALLERS);
 }
 
-/* ---- Looks, and who takes the history. ---- */
+/* ---- Looks, and whoever takes the history. ---- */
 
 static double look_once(pelgaisti_session *session, double milliseconds) {
     const double begun = now();
@@ -347,24 +358,32 @@ static void looks_beside_threads(void) {
 }
 
 static void *look_in_circle(void *at) {
-    (void)at;
-    while (!__atomic_load_n(&is_over, __ATOMIC_RELAXED)) look_once(&s[0], 1);
+    for (; !__atomic_load_n(&is_over, __ATOMIC_RELAXED); count(at)) look_once(&s[0], 1);
     return NULL;
 }
 
-/* Beside a thread that looks in a circle, eight make 50 transactions each, which takes some 100 looks. */
+static void *poll_often(void *at) {
+    for (int k = 0; k < 50; k++) MUST(ask(at, PELGAISTI_POLL).kind == PELGAISTI_CLEAR);
+    return NULL;
+}
+
+/* Beside a thread that looks in a circle, eight make 50 calls each, though they are slow to come when they are called up: as a rule each look
+   waits until all have come who waited for the one before. */
 static void looks_in_circle(void) {
-    pthread_t thread;
-    double begun;
-    open_for(9);
-    MUST(pthread_create(&thread, NULL, look_in_circle, NULL) == 0);
-    begun = now();
-    start(2, 8, 1, 50);
-    CHECK(join(8) >= 400 && now() - begun < 8000);
-    __atomic_store_n(&is_over, 1, __ATOMIC_RELAXED);
-    MUST(pthread_join(thread, NULL) == 0);
-    __atomic_store_n(&is_over, 0, __ATOMIC_RELAXED);
-    close_all(s, 9);
+    enum { THREADS = 8 };
+    pthread_t thread, threads[THREADS];
+    uint64_t made = 0;
+    open_for(THREADS + 1);
+    for (int k = 0; k < THREADS; k++) begin(&s[k + 1]);
+    __atomic_store_n(&is_slow_to_come, 1, __ATOMIC_RELAXED);
+    MUST(pthread_create(&thread, NULL, look_in_circle, &made) == 0);
+    for (int k = 0; k < THREADS; k++) MUST(pthread_create(&threads[k], NULL, poll_often, &s[k + 1]) == 0);
+    for (int k = 0; k < THREADS; k++) MUST(pthread_join(threads[k], NULL) == 0);
+    CHECK(value(&made) < 500);
+    __atomic_store_n(&is_slow_to_come, 0, __ATOMIC_RELAXED);
+    end_one(thread);
+    for (int k = 0; k < THREADS; k++) commit(&s[k + 1]);
+    close_all(s, THREADS + 1);
 }
 
 /* The shortest of three times that 20,000 calls take. */
@@ -385,15 +404,16 @@ static void *take_in_circle(void *at) {
     return NULL;
 }
 
-/* Who takes the history while its own thread looks is told so, and the door is open then. While another tries for the table, calls stand back,
-   also one that needs no table. */
+/* Whoever takes the history while its own thread looks is told so, and the door is open then. While another tries for the table, calls stand
+   back, also one that needs no table: so some hundred are made in ten milliseconds, and not many thousands. */
 static void takes_are_given_up(void) {
+    enum { WINDOWS = 9 };
+    double calls[WINDOWS];
     pelgaisti_book view = PELGAISTI_EMPTY;
     const pelgaisti_call poll = {PELGAISTI_POLL, 0, {0, {0}}};
     pelgaisti_answer answer;
     pthread_t thread;
     double begun, took;
-    int quick = 0;
     open_for(3);
     look(&s[0], &view);
     begun = now();
@@ -406,15 +426,13 @@ static void takes_are_given_up(void) {
     MUST(pelgaisti_session_publish(&s[2], &poll, NULL) == PELGAISTI_OK);
     MUST(pthread_create(&thread, NULL, take_in_circle, &s[1]) == 0);
     pause_for(5);
-    for (int k = 0; k < 300; k++) {
+    for (int k = 0; k < WINDOWS; k++) {
         begun = now();
-        MUST(pelgaisti_session_perform(&s[2], NULL, 1, &answer) == PELGAISTI_NOT_SERVED);
-        quick += now() - begun < 0.02;
+        for (calls[k] = 0; now() - begun < 10; calls[k]++) MUST(pelgaisti_session_perform(&s[2], NULL, 1, &answer) == PELGAISTI_NOT_SERVED);
     }
-    CHECK(quick < 150);
-    __atomic_store_n(&is_over, 1, __ATOMIC_RELAXED);
-    MUST(pthread_join(thread, NULL) == 0);
-    __atomic_store_n(&is_over, 0, __ATOMIC_RELAXED);
+    sort(calls, WINDOWS);
+    CHECK(calls[WINDOWS / 2] < 1000);
+    end_one(thread);
     end_look(&s[0], &view);
     CHECK(pelgaisti_session_perform(&s[2], NULL, 9, &answer) == PELGAISTI_OK);
     close_all(s, 3);
@@ -442,18 +460,33 @@ static void many_transactions(pelgaisti_session *session, int count_of) {
     for (int k = 0; k < count_of; k++) begin(session), commit(session);
 }
 
-/* Beside a thread that never stops another begins now and then. */
+/* Makes transactions until all is over, and tells how often it called somebody up. */
+static void *go_on(void *at) {
+    while (!__atomic_load_n(&is_over, __ATOMIC_RELAXED)) many_transactions(&s[0], 100);
+    *(uint64_t *)at = own_wakes;
+    return NULL;
+}
+
+/* Beside a thread that never stops another begins now and then. Most times it is called up by that one, unless the machine had no time for
+   that one: if so, once more. */
 static void begins_beside_another(void) {
     enum { TIMES = 50 };
     static double took[TIMES];
-    open_for(3);
+    uint64_t most = 0;
+    open_for(2);
     warm_up(1);
-    start(1, 1, 1, 0);
-    for (int k = 0; k < TIMES; k++) pause_for(2), took[k] = begin_once(&s[2]);
-    sort(took, TIMES);
-    CHECK(took[TIMES / 2] < 50 && took[TIMES - 1] < 5000);
-    CHECK(end(1) > TIMES);
-    close_all(s, 3);
+    for (int tries = 0; tries < 3 && most < TIMES / 2; tries++) {
+        uint64_t calls_up = 0;
+        pthread_t thread;
+        MUST(pthread_create(&thread, NULL, go_on, &calls_up) == 0);
+        for (int k = 0; k < TIMES; k++) pause_for(2), took[k] = begin_once(&s[1]);
+        end_one(thread);
+        sort(took, TIMES);
+        CHECK(took[TIMES / 2] < 50 && took[TIMES - 1] < 5000);
+        if (calls_up > most) most = calls_up;
+    }
+    CHECK(most >= TIMES / 2);
+    close_all(s, 2);
 }
 
 /* A thread in step with the one that tests: what it does until it has to wait. */
@@ -600,9 +633,7 @@ static void offices_come_and_go(void) {
     start_callers(CALLERS);
     for (int k = 0; k < 50; k++) MUST(call_beside_look(CALLERS, 1) < 10000);
     end_callers(CALLERS);
-    __atomic_store_n(&is_over, 1, __ATOMIC_RELAXED);
-    MUST(pthread_join(thread, NULL) == 0);
-    __atomic_store_n(&is_over, 0, __ATOMIC_RELAXED);
+    end_one(thread);
     CHECK(made > 10);
 }
 
@@ -642,7 +673,7 @@ static void *call_in_child(void *at) {
 
 /* In a child: in many offices, one after another, two threads make transactions, one of which waits for the other's look. */
 static void run_child(int count_of) {
-    alarm(30);
+    alarm(8);
     for (int k = 0; k < count_of; k++) {
         pelgaisti_book view = PELGAISTI_EMPTY;
         pthread_t thread;
@@ -708,24 +739,59 @@ static void cancel(void) {
 
 /* ---- Refused memory. ---- */
 
+/* Locks rows and gives them back, in a transaction that was begun before. */
+static void *lock_and_restart(void *at) {
+    worker *it = at;
+    pelgaisti_session *own = &s[it->first - 1];
+    for (it->made = 0; it->made < it->wanted; it->made++) {
+        pelgaisti_call lock = {PELGAISTI_LOCK, PELGAISTI_IX, {1, {0}}};
+        lock.resource.numbers[0] = it->first;
+        for (uint32_t row = 0; row < 8; row++) {
+            pelgaisti_answer answer;
+            pelgaisti_status status = pelgaisti_session_perform(own, &lock, UINT64_MAX, &answer);
+            while (status == PELGAISTI_NO_MEMORY) count(&starved), status = pelgaisti_session_perform(own, NULL, UINT64_MAX, &answer);
+            MUST(status == PELGAISTI_OK && answer.reply.kind == PELGAISTI_GRANTED);
+            lock.resource.level = 2;
+            lock.resource.numbers[1] = row + 1;
+        }
+        MUST(ask(own, PELGAISTI_RESTART).kind == PELGAISTI_RESTARTED);
+    }
+    count(&returned);
+    return NULL;
+}
+
+/* An office takes nearly all of its memory in its first calls: so there is a new one each time, whose threads meet at a look. */
 static void memory(void) {
-    const uint32_t threads = 32;
-    pelgaisti_counts counts;
-    uint64_t made;
-    open_for(threads);
+    enum { THREADS = 16, ROUNDS = 20 };
+    for (int round = 0; round < ROUNDS; round++) {
+        open_for(THREADS + 1);
+        returned = 0;
+        for (uint32_t k = 0; k < THREADS; k++) begin(&s[k + 1]);
+        __atomic_store_n(&refuses, 1, __ATOMIC_RELAXED);
+        for (uint32_t k = 0; k < THREADS; k++) {
+            const worker fresh = {k + 2, 1, 0, 20, 0, 0, 0};
+            w[k] = fresh;
+            MUST(pthread_create(&w[k].thread, NULL, lock_and_restart, &w[k]) == 0);
+        }
+        while (value(&returned) < THREADS) look_once(&s[0], 0.2);
+        __atomic_store_n(&refuses, 0, __ATOMIC_RELAXED);
+        CHECK(join(THREADS) == THREADS * 20);
+        for (uint32_t k = 0; k < THREADS; k++) commit(&s[k + 1]);
+        close_all(s, THREADS + 1);
+    }
+    CHECK(refused > 0 && starved > 0);
+    refused = starved = 0;
+    open_for(32);
     __atomic_store_n(&refuses, 1, __ATOMIC_RELAXED);
-    start(1, threads, 1, 500);
-    made = join(threads);
+    start(1, 32, 1, 200);
+    CHECK(join(32) == 32 * 200);
     __atomic_store_n(&refuses, 0, __ATOMIC_RELAXED);
-    count_calls(&s[0], &counts);
-    CHECK(made == threads * 500 && counts.calls[PELGAISTI_BEGIN] == made && counts.calls[PELGAISTI_COMMIT] == made);
-    CHECK(refused > 0);
-    close_all(s, threads);
+    close_all(s, 32);
 }
 
 int main(int given, char **words) {
     static const struct { const char *name; void (*run)(void); } cases[] = {
-        {"early", early}, {"crowd", crowd}, {"sleepers", sleepers}, {"looks", looks}, {"slices", slices}, {"offices", offices},
+        {"constructed", constructed}, {"crowd", crowd}, {"sleepers", sleepers}, {"looks", looks}, {"slices", slices}, {"offices", offices},
         {"fork", forks}, {"cancel", cancel}, {"memory", memory}};
     if (given > 3) crowd_threads = (uint32_t)atoi(words[3]);
     if (given > 4) crowd_each = strtoull(words[4], NULL, 10);
