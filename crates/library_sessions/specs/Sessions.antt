@@ -7,7 +7,6 @@ use Rattle.lock_rules.specs.Entries.{Entry}
 use Rattle.sequential.specs.Histories.{calls_of}
 use Rattle.publication.specs.Boards.{HasCallsOf, heard_from, publishing, enlisted, tried}
 use Rattle.publication.specs.StepKinds.{longer, maxes}
-use Rattle.publication.specs.Sleep.{AreRoused}
 use Rattle.combining.specs.Sessions.{HasTriedToList}
 use Rattle.combining.specs.Woken.{entered_since}
 use Rattle.lock_programs.specs.declared.program.Program.{Program}
@@ -90,25 +89,6 @@ IsHeard before other after = (after.session ≡ record before.session {
 abbrev pub IsRetired : SessionShare → SessionShare → Type 0
 IsRetired before after = (before.session.pending ≡ None) × (before.session.retired ≡ false)
     × (after.session ≡ record before.session { retired = true }) × IsSameOffice before after
-
--- the share keeps all but its session
-abbrev pub IsSameButSession : SessionShare → SessionShare → Type 0
-IsSameButSession before after = (after.handed ≡ before.handed) × (after.told ≡ before.told) × IsSameOffice before after
-
--- the session has begun a sleep. 1: it is down, and has seen since that another session had the lock table. 0: it is up again
-abbrev pub HasBegunSleep : SessionShare → SessionShare → ℕ → Type 0
-HasBegunSleep before after may_sleep = (may_sleep ≤ 1) × (may_sleep ≡ 1 → after.session ≡ record before.session { down = true; saw = true; sleeps = before.session.sleeps + 1 })
-    × (may_sleep ≡ 0 → after.session ≡ record before.session { down = false; saw = false; sleeps = before.session.sleeps + 1 }) × IsSameButSession before after
-
--- the session has looked whether its sleep was ended. 1: it is up
-abbrev pub HasAsked : SessionShare → SessionShare → ℕ → Type 0
-HasAsked before after is_roused = (is_roused ≤ 1) × (is_roused ≡ 1 → after.session ≡ record before.session { down = false; asked = before.session.asked + 1 })
-    × (is_roused ≡ 0 → after.session ≡ record before.session { asked = before.session.asked + 1 }) × IsSameButSession before after
-
--- the session has no look for sleepers left to make, and the array has at its front the sessions whose sleeps it has ended, each once
-abbrev pub HasRoused : SessionShare → SessionShare → List ℕ → List ℕ → ℕ → Type 0
-HasRoused before after places written count = (after.session ≡ record before.session { looks = false; ended = after.session.ended })
-    × AreRoused before.sessions 0 before.session.ended after.session.ended places written count × IsSameButSession before after
 
 -- the share is unchanged, except for the capacity of its vector of sessions
 pub record IsSameShare (before after : SessionShare) : Type 0 where

@@ -1,6 +1,6 @@
 -- The outcomes of one turn of what a session asks by numbers, a call or a program, as the exports state them. A call is a program of one
 -- call. `is_asked` says which program the numbers encode, and `tells` which numbers tell its answer.
-use Rattle.std.specs.Prelude.{◌≡◌, ◌≢◌, ℕ, ◌%◌, ◌<◌, ◌≤◌, ◌⊎◌, Bool, true, false, Some, None, length}
+use Rattle.std.specs.Prelude.{◌≡◌, ◌≢◌, ℕ, ◌<◌, ◌≤◌, ◌⊎◌, Bool, true, false, Some, None, length}
 use Rattle.lock_rules.specs.declared.calls.Call.{Call}
 use Rattle.lock_rules.specs.declared.calls.Reply.{Reply}
 use Rattle.publication.specs.Views.{asks}
@@ -12,9 +12,6 @@ use Rattle.lock_office.specs.Sessions.{IsIdle}
 use Rattle.lock_office.specs.ProgramTurns.{IsCalled, IsAnswered}
 use Rattle.lock_office.specs.SingleCalls.{MakesOneCall, IsLastReply}
 use Rattle.combining.specs.Calls.{IsCalling, IsWaitingOn}
-use Rattle.combining.specs.Waits.{IsWaitAfterLook, IsWaitAfterTurn}
-use Rattle.combining.specs.declared.backoff.TheConstants.{TRIES_AT_ONCE, LOOKS_PER_TRY}
-use Rattle.combining.specs.declared.backoff.Backoff.{Backoff}
 use Rattle.library_books.specs.declared.numbers.CallNumbers.{CallNumbers}
 use Rattle.library_books.specs.declared.numbers.AnswerNumbers.{AnswerNumbers}
 use Rattle.library_books.specs.declared.program_numbers.ProgramNumbers.{ProgramNumbers}
@@ -23,14 +20,8 @@ use Rattle.library_books.specs.declared.status.TheConstants.{OK, NO_MEMORY, NO_S
 use Rattle.library_books.specs.Numbers.{IsCall, numbers_of_reply}
 use Rattle.library_books.specs.Programs.{IsProgram, IsProgramFault, numbers_of_answer}
 use Rattle.library_sessions.specs.declared.session_share.SessionShare.{SessionShare}
-use Rattle.library_sessions.specs.declared.turn_calls.TheConstants.{NO_TURN, YIELD}
 use Rattle.library_sessions.specs.Bounds.{HasServedWithin}
 use Rattle.library_sessions.specs.Sessions.{IsSameOffice, AreToWake}
-
--- the number of a wait: of pause instructions how many there are
-abbrev pub number_of_wait : Backoff → ℕ
-number_of_wait (Backoff.Pause pauses) = pauses
-number_of_wait Backoff.Yield = YIELD
 
 -- the numbers encode a call, and the program makes this one call
 abbrev pub IsOfCall : CallNumbers → Program → Type 0
@@ -60,9 +51,8 @@ TellsAll program made answer = answer ≡ numbers_of_answer program made
 abbrev pub IsMade : ℕ → Type 0
 IsMade status = (status ≡ OK) ⊎ ((status ≡ NO_MEMORY) ⊎ (status ≡ NOT_SERVED))
 
--- turn number `made` of an idle session, of at most `turns`, with its program. The numbers of the answer and of the wait before the next turn
--- are written, and how many sessions are to be woken
-pub record HasBegun {N : Type 0} (tells : Program → ProgramAnswer → N → Type 0) (before after : SessionShare) (program : Program) (made turns : ℕ) (unanswered answer : N) (unread wait told status : ℕ) : Type 0 where
+-- an idle session has begun this program. The numbers of the answer are written, and how many sessions are to be woken
+pub record HasBegun {N : Type 0} (tells : Program → ProgramAnswer → N → Type 0) (before after : SessionShare) (program : Program) (tries : ℕ) (unanswered answer : N) (told status : ℕ) : Type 0 where
   -- the session was idle, and has entered at most one call more than a pass may serve
   pub idle : IsIdle before.session
   pub few : HasServedWithin 1 before after
@@ -70,20 +60,17 @@ pub record HasBegun {N : Type 0} (tells : Program → ProgramAnswer → N → Ty
   pub ok : status ≡ OK → ((at : ℕ) × (reply : ProgramAnswer) × IsCalled before.session after.session program at reply × tells program reply answer) × IsIdle after.session
   -- memory was refused in a pass of the session, and the program is pending
   pub memory : status ≡ NO_MEMORY → IsCalling before.session after.session program
-  -- another session has the lock table: the program was tried at once in the first turns, and then published
-  pub tried : status ≡ NOT_SERVED → made < turns → made < TRIES_AT_ONCE → (after.session ≡ before.session) × (2 ≤ before.sessions)
-  pub published : status ≡ NOT_SERVED → made < turns → TRIES_AT_ONCE ≤ made → IsCalling before.session after.session program × (2 ≤ before.sessions)
-  pub waits : status ≡ NOT_SERVED → made < turns → (w : Backoff) × IsWaitAfterTurn (before.session.pending ≡ None) made w × (wait ≡ number_of_wait w)
-  -- no turn is left, and the program is published
-  pub last : status ≡ NOT_SERVED → turns ≤ made → (wait ≡ NO_TURN) × IsCalling before.session after.session program
+  -- the program was tried at once, another session had the lock table, and nothing has changed
+  pub tried : status ≡ NOT_SERVED → tries ≢ 0 → (after.session ≡ before.session) × (2 ≤ before.sessions)
+  -- it was not tried, and is published
+  pub published : tries ≡ 0 → (status ≡ NOT_SERVED) × IsCalling before.session after.session program
   pub failed : status ≢ OK → answer ≡ unanswered
-  pub not_late : status ≢ NOT_SERVED → wait ≡ unread
   pub told_is : AreToWake before after told
   pub office : IsSameOffice before after
   pub statuses : IsMade status
 
--- turn number `made` of a session with a program pending, of at most `turns`. It writes as that of an idle one
-pub record HasResumed {N : Type 0} (tells : Program → ProgramAnswer → N → Type 0) (before after : SessionShare) (made turns : ℕ) (unanswered answer : N) (unread wait told status : ℕ) : Type 0 where
+-- a session with a program pending has made a turn of it. It writes as that of an idle one
+pub record HasResumed {N : Type 0} (tells : Program → ProgramAnswer → N → Type 0) (before after : SessionShare) (tries : ℕ) (unanswered answer : N) (told status : ℕ) : Type 0 where
   -- a program was pending, and the session has entered at most as many calls as a pass may serve
   pub pending : before.session.pending ≢ None
   pub few : HasServedWithin 0 before after
@@ -91,34 +78,29 @@ pub record HasResumed {N : Type 0} (tells : Program → ProgramAnswer → N → 
   pub ok : status ≡ OK → ((at : ℕ) × (reply : ProgramAnswer) × (is : IsAnswered before.session after.session at reply) × tells is.0 reply answer) × IsIdle after.session
   -- memory was refused in a pass of the session, and the program is still pending
   pub memory : status ≡ NO_MEMORY → IsWaitingOn before.session after.session × (before.session.put_backs < after.session.put_backs)
-  -- there is no answer yet. In the turns in which the session tried to serve, the office has other sessions
-  pub waits : status ≡ NOT_SERVED → made < turns → IsWaitingOn before.session after.session × ((w : Backoff) × IsWaitAfterLook made w × (wait ≡ number_of_wait w))
-  pub others : status ≡ NOT_SERVED → made < turns → made % LOOKS_PER_TRY ≡ 0 → 2 ≤ before.sessions
-  -- no turn is left
-  pub last : status ≡ NOT_SERVED → turns ≤ made → (wait ≡ NO_TURN) × (after.session ≡ before.session)
+  -- there is no answer yet. If the session tried to serve, the office has other sessions
+  pub waits : status ≡ NOT_SERVED → IsWaitingOn before.session after.session
+  pub others : status ≡ NOT_SERVED → tries ≢ 0 → 2 ≤ before.sessions
   pub failed : status ≢ OK → answer ≡ unanswered
-  pub not_late : status ≢ NOT_SERVED → wait ≡ unread
   pub told_is : AreToWake before after told
   pub office : IsSameOffice before after
   pub statuses : IsMade status
 
 -- nothing is changed or written
-abbrev pub IsUntouched : {S N : Type 0} → S → S → N → N → ℕ → ℕ → ℕ → ℕ → Type 0
-IsUntouched before after unanswered answer unread wait untold told = (after ≡ before) × (answer ≡ unanswered) × (wait ≡ unread) × (told ≡ untold)
+abbrev pub IsUntouched : {S N : Type 0} → S → S → N → N → ℕ → ℕ → Type 0
+IsUntouched before after unanswered answer untold told = (after ≡ before) × (answer ≡ unanswered) × (told ≡ untold)
 
--- the session may not make turn number `made` of what the numbers ask: the status is that of the first test that fails
-pub record IsRefused {Q : Type 0} (is_asked : Q → Program → Type 0) (is_fault : Q → ℕ → Type 0) (session : TicketView) (asked : Q) (made status : ℕ) : Type 0 where
+-- the session may not begin what the numbers ask: the status is that of the first test that fails
+pub record IsRefused {Q : Type 0} (is_asked : Q → Program → Type 0) (is_fault : Q → ℕ → Type 0) (session : TicketView) (asked : Q) (status : ℕ) : Type 0 where
   pub fault : status ≢ RETIRED → status ≢ PENDING → is_fault asked status
   pub retired : status ≡ RETIRED → (session.retired ≡ true) × ((program : Program) × is_asked asked program)
-  pub pending : status ≡ PENDING → (made ≡ 0) × (session.pending ≢ None) × ((program : Program) × is_asked asked program)
+  pub pending : status ≡ PENDING → (session.pending ≢ None) × ((program : Program) × is_asked asked program)
 
--- a turn of what the numbers ask: of their program, if the session was idle; of what is pending, if it had something pending, behind the first
--- turn; or it was refused
-abbrev pub HasMadeTurn : {Q N : Type 0} → (Q → Program → Type 0) → (Q → ℕ → Type 0) → (Program → ProgramAnswer → N → Type 0) → SessionShare → SessionShare → Q → ℕ → ℕ → N → N → ℕ → ℕ → ℕ → ℕ → ℕ → Type 0
-HasMadeTurn is_asked is_fault tells before after asked made turns unanswered answer unread wait untold told status =
-    ((program : Program) × is_asked asked program × (HasBegun tells before after program made turns unanswered answer unread wait told status
-    ⊎ ((made ≢ 0) × HasResumed tells before after made turns unanswered answer unread wait told status)))
-    ⊎ (IsRefused is_asked is_fault before.session asked made status × IsUntouched before after unanswered answer unread wait untold told)
+-- the session has begun the program that the numbers ask; or it was refused
+abbrev pub HasMadeTurn : {Q N : Type 0} → (Q → Program → Type 0) → (Q → ℕ → Type 0) → (Program → ProgramAnswer → N → Type 0) → SessionShare → SessionShare → Q → ℕ → N → N → ℕ → ℕ → ℕ → Type 0
+HasMadeTurn is_asked is_fault tells before after asked tries unanswered answer untold told status =
+    ((program : Program) × is_asked asked program × HasBegun tells before after program tries unanswered answer told status)
+    ⊎ (IsRefused is_asked is_fault before.session asked status × IsUntouched before after unanswered answer untold told)
 
 -- the numbers of the answer can't go on with what is pending: nothing is, or a program whose answer they don't tell as a whole
 pub record IsNotResumed (whole : Program → Bool) (session : TicketView) (status : ℕ) : Type 0 where
@@ -127,8 +109,8 @@ pub record IsNotResumed (whole : Program → Bool) (session : TicketView) (statu
   pub statuses : (status ≡ NOTHING_PENDING) ⊎ (status ≡ PENDING)
 
 -- a turn of what is pending, whose answer the numbers tell as a whole; or it was refused
-abbrev pub HasMadeLook : {N : Type 0} → (Program → ProgramAnswer → N → Type 0) → (Program → Bool) → SessionShare → SessionShare → ℕ → ℕ → N → N → ℕ → ℕ → ℕ → ℕ → ℕ → Type 0
-HasMadeLook tells whole before after looked turns unanswered answer unread wait untold told status =
+abbrev pub HasMadeLook : {N : Type 0} → (Program → ProgramAnswer → N → Type 0) → (Program → Bool) → SessionShare → SessionShare → ℕ → N → N → ℕ → ℕ → ℕ → Type 0
+HasMadeLook tells whole before after tries unanswered answer untold told status =
     (((program : Program) (floor : ℕ) → before.session.pending ≡ Some (asks program floor) → whole program ≡ true)
-    × HasResumed tells before after looked turns unanswered answer unread wait told status)
-    ⊎ (IsNotResumed whole before.session status × IsUntouched before after unanswered answer unread wait untold told)
+    × HasResumed tells before after tries unanswered answer told status)
+    ⊎ (IsNotResumed whole before.session status × IsUntouched before after unanswered answer untold told)

@@ -2,8 +2,7 @@
 //!
 //! The handles: `session_handle.rt`, and what is in it: `held_share.rt`, `session_share.rt`; and `book_handle.rt`, of a book or of a look.
 //! Pointers of C to handles: `pointers.rt`. Opening and closing: `opening.rt`, `hand_in.rt`. The calls, on the share that a handle holds:
-//! `session_calls.rt`, `turn_calls.rt`, `looks.rt`, `bounds.rt`, `sleep_calls.rt`. Questions of a book: `deadlocks.rt`,
-//! `pages.rt`, `dump.rt`.
+//! `session_calls.rt`, `turn_calls.rt`, `looks.rt`, `bounds.rt`. Questions of a book: `deadlocks.rt`, `pages.rt`, `dump.rt`.
 #![tactic(auto)]
 
 pub mod book_handle;
@@ -20,5 +19,4 @@ pub mod pointers;
 pub mod session_calls;
 pub mod session_handle;
 pub mod session_share;
-pub mod sleep_calls;
 pub mod turn_calls;

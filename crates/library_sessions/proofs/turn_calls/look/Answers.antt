@@ -16,7 +16,7 @@ returns-then-not-is_whole-clause-look g c =
       several = λ _. (program, floor, pending, kept.1, ap (λ (p : Program). g.A.Tells.whole p) kept.0 ∙ (sym c.is_whole.ensures ∙ few));
       statuses = inr refl;
     } in
-    inr (refused, (refl, refl, refl, refl)))
+    inr (refused, (refl, refl, refl)))
 
 pub returns-clause-look : goal.returns-clause-look
 returns-clause-look g c =

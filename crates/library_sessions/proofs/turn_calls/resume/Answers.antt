@@ -1,12 +1,10 @@
-use Rattle.std.proofs.Common.{rules, ◌≡◌, ◌<◌, inr, length, refl, ap, sym, subst, arith}
+use Rattle.std.proofs.Common.{rules, ◌≡◌, ◌<◌, true, length, refl, sym, subst, arith}
 use Rattle.programs.specs.Flat.{IsAnswer}
 use Rattle.lock_programs.specs.declared.program.Program.{Program}
 use Rattle.lock_programs.specs.Answers.{program_form}
 use Rattle.lock_programs.specs.Calls.{calls_of}
-use Rattle.combining.proofs.EndedWaits.{told-self}
 use Rattle.lock_office.proofs.Sessions.{answered-at}
-use Rattle.combining.specs.Rounds.{most_of}
-use Rattle.library_sessions.proofs.Turns.{within-none, to-wake}
+use Rattle.library_sessions.proofs.Turns.{to-wake}
 use Rattle.library_sessions.proofs.turn_calls.resume.Goals as goal
 
 pub write_next-requires : goal.write_next-requires
@@ -20,7 +18,6 @@ pub returns-clause-resumed : goal.returns-clause-resumed
 returns-clause-resumed g c =
     let made = c.run_look-next in
     let awaited = made.ensures.awaited in
-    let left = c.if-made-turns.false in
     let many : c.deref.result.now.sessions ≡ c.args.share.now.sessions = search rules in record {
       pending = c.requires.pending;
       few = let few = made.ensures.few in omega (arith, few);
@@ -30,29 +27,10 @@ returns-clause-resumed g c =
           let kept = c.pending_program-asked.ensures d.0 d.1 d.2 in
           ((found.0.place, found.0.reply, d, subst (λ (p : Program). g.A.Tells.tells p found.0.reply c.write_next.new.answer) (sym kept.0) found.2), awaited.idle found.0 found.1);
       memory = λ e. awaited.starved (c.write_next.ensures.memory e);
-      waits = λ e _. let w = c.write_next.ensures.waits e in (awaited.waits w.0 w.1, (w.0, made.ensures.wait w.0 w.1, w.2));
-      others = λ e _ at. let w = c.write_next.ensures.waits e in let some = made.ensures.others w.0 w.1 at in omega (arith, some, many);
-      last = λ _ over. absurd (omega (arith, left, over));
+      waits = λ e. awaited.waits (c.write_next.ensures.waits e);
+      others = λ e some. let others = made.ensures.others (c.write_next.ensures.waits e) (search (rules, some)) in omega (arith, others, many);
       failed = c.write_next.ensures.failed;
-      not_late = c.write_next.ensures.not_late;
       told_is = to-wake _ _ c.deref.result.now.sessions _ c.clear.new.self.listener.list many c.clear.ensures.none c.count.ensures.count made.ensures.told;
       office = record { office = refl; handed = refl; sessions = refl; mark = refl; waker = refl; bound = refl };
       statuses = c.write_next.ensures.statuses;
-    }
-
-pub returns-then-made-turns-clause-resumed : goal.returns-then-made-turns-clause-resumed
-returns-then-made-turns-clause-resumed g c =
-    let over = c.if-made-turns.true in record {
-      pending = c.requires.pending;
-      few = within-none 0 (most_of c.args.share.now.bound) c.args.share.now.session c.args.share.now.session refl;
-      ok = λ e. absurd cc;
-      memory = λ e. absurd cc;
-      waits = λ _ left. absurd (omega (arith, left, over));
-      others = λ _ left _. absurd (omega (arith, left, over));
-      last = λ _ _. (refl, refl);
-      failed = λ _. refl;
-      not_late = λ other. absurd (other refl);
-      told_is = to-wake _ _ _ _ c.clear.new.self.listener.list refl c.clear.ensures.none (sym (ap length c.clear.ensures.none)) (told-self c.args.share.now.sessions c.args.share.now.session c.args.share.now.session c.clear.new.self.listener.list refl);
-      office = record { office = refl; handed = refl; sessions = refl; mark = refl; waker = refl; bound = refl };
-      statuses = inr (inr refl);
     }
