@@ -72,7 +72,8 @@ uint32_t pelgaisti_raw_session_serve(pelgaisti_session **session, pelgaisti_pass
    and returns NOT_SERVED: the call is pending. With NO_MEMORY the call is pending. `told` is written with OK, NO_MEMORY and NOT_SERVED. */
 uint32_t pelgaisti_raw_session_turn(pelgaisti_session **session, const pelgaisti_call **call, uint32_t tries,
                                     pelgaisti_answer **answer, size_t *told);
-/* A turn of the call that is pending: tries for the lock table first, unless `tries` is 0, and looks for the answer. With NOT_SERVED and
+/* A turn of the call that is pending. `tries`: 0 looks for the answer, 1 tries for the lock table first; with 2 it does neither, and returns
+   NOT_SERVED, with nothing changed or written. Else with NOT_SERVED and
    NO_MEMORY it is still pending. It writes as pelgaisti_raw_session_turn does. */
 uint32_t pelgaisti_raw_session_resume(pelgaisti_session **session, uint32_t tries, pelgaisti_answer **answer, size_t *told);
 /* Begins a program as pelgaisti_raw_session_turn begins a call. */

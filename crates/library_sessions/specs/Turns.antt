@@ -20,6 +20,7 @@ use Rattle.library_books.specs.declared.status.TheConstants.{OK, NO_MEMORY, NO_S
 use Rattle.library_books.specs.Numbers.{IsCall, numbers_of_reply}
 use Rattle.library_books.specs.Programs.{IsProgram, IsProgramFault, numbers_of_answer}
 use Rattle.library_sessions.specs.declared.session_share.SessionShare.{SessionShare}
+use Rattle.library_sessions.specs.declared.turn_calls.TheConstants.{NEITHER}
 use Rattle.library_sessions.specs.Bounds.{HasServedWithin}
 use Rattle.library_sessions.specs.Sessions.{IsSameOffice, AreToWake}
 
@@ -108,9 +109,16 @@ pub record IsNotResumed (whole : Program → Bool) (session : TicketView) (statu
   pub several : status ≡ PENDING → (program : Program) × (floor : ℕ) × (session.pending ≡ Some (asks program floor)) × (0 < length (calls_of program)) × (whole program ≡ false)
   pub statuses : (status ≡ NOTHING_PENDING) ⊎ (status ≡ PENDING)
 
--- a turn of what is pending, whose answer the numbers tell as a whole; or it was refused
+-- something is pending, and only that was asked: nothing is changed or written
+pub record IsStillPending {N : Type 0} (before after : SessionShare) (tries : ℕ) (unanswered answer : N) (untold told status : ℕ) : Type 0 where
+  pub neither : tries ≡ NEITHER
+  pub pending : before.session.pending ≢ None
+  pub not_served : status ≡ NOT_SERVED
+  pub untouched : IsUntouched before after unanswered answer untold told
+
+-- a turn of what is pending, whose answer the numbers tell as a whole, or only that it is; or it was refused
 abbrev pub HasMadeLook : {N : Type 0} → (Program → ProgramAnswer → N → Type 0) → (Program → Bool) → SessionShare → SessionShare → ℕ → N → N → ℕ → ℕ → ℕ → Type 0
 HasMadeLook tells whole before after tries unanswered answer untold told status =
     (((program : Program) (floor : ℕ) → before.session.pending ≡ Some (asks program floor) → whole program ≡ true)
-    × HasResumed tells before after tries unanswered answer told status)
+    × (((tries ≢ NEITHER) × HasResumed tells before after tries unanswered answer told status) ⊎ IsStillPending before after tries unanswered answer untold told status))
     ⊎ (IsNotResumed whole before.session status × IsUntouched before after unanswered answer untold told)

@@ -25,6 +25,9 @@ use lock_office::last_of;
 use lock_programs::{Program, ProgramAnswer};
 use programs::Programs;
 
+/// How a turn of what is pending is asked for neither to try for the lock table nor to look for the answer: it tells that something is.
+pub const NEITHER: u32 = 2;
+
 /// Numbers that ask something of a session.
 pub trait Asks {
     // What they ask, and the status if it is nothing.
@@ -226,8 +229,8 @@ pub fn turn<Q: Asks, A: Tells>(
     begin(share, &program, tries, answer, told)
 }
 
-/// Makes one turn of what the session has pending, as `resume` does. A pending program is refused if the numbers don't tell the whole
-/// answer to it.
+/// Makes one turn of what the session has pending, as `resume` does, or with `NEITHER` tells that something is pending. A pending program is
+/// refused if the numbers don't tell the whole answer to it.
 pub fn look<A: Tells>(share: &mut SessionShare, tries: u32, answer: &mut A, told: &mut usize) -> u32
     requires free { is_some share.old.looking ≡ false }
     ensures free { is_some share.new.looking ≡ false }
@@ -240,6 +243,9 @@ pub fn look<A: Tells>(share: &mut SessionShare, tries: u32, answer: &mut A, told
     let asked = share.session.pending_program();
     if !A::is_whole(&asked) {
         return PENDING;
+    }
+    if tries == NEITHER {
+        return NOT_SERVED;
     }
     resume(share, tries, answer, told)
 }
