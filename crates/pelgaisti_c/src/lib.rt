@@ -3,7 +3,7 @@
 //! `library_sessions`, puts the value back, and returns a status. `bindings/c` makes a whole call of turns. Begin with `book.rt`.
 //!
 //! - Over a book: `book.rt`, `book_program_exports.rt`, `path_step_exports.rt`. Over sessions: `office.rt`, `publish_exports.rt`,
-//!   `turn_exports.rt`, and `bound`, `close`, `knowledge`, `look` and `sleep_exports.rt`. Over a book or a look: all others.
+//!   `turn_exports.rt`, and `bound`, `close`, `knowledge` and `look_exports.rt`. Over a book or a look: all others.
 //!
 //! Proved: each export states the clauses of its call again, in numbers; one that failed has changed nothing, but for the exceptions told
 //! where `library_books` has the statuses. Of what it is given by reference C says that it isn't null: numbers that C keeps for itself, and
@@ -71,7 +71,6 @@ mod office;
 mod page_exports;
 mod path_step_exports;
 mod publish_exports;
-mod sleep_exports;
 mod turn_exports;
 mod version;
 

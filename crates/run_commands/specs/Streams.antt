@@ -1,5 +1,5 @@
 -- A run whose history is taken and written in pieces; cited by private contracts only.
-use Rattle.std.specs.Prelude.{false, ◌≡◌, ◌⊎◌, ℕ, ◌+◌, ◌≤◌, List, [], length, take, drop, Option, All}
+use Rattle.std.specs.Prelude.{◌≡◌, ◌⊎◌, ℕ, ◌+◌, ◌≤◌, List, [], length, take, drop, Option, All}
 use Rattle.std.specs.Io.KnownBytes.{Appends, Keeps}
 use Rattle.lock_rules.specs.Entries.{Entry}
 use Rattle.lock_rules.specs.Legal.{IsLegal}
@@ -18,9 +18,9 @@ use Rattle.replay_commands.specs.Pieces.{IsFaultOfPiece}
 use Rattle.run_commands.specs.Runs.{HasWrittenFront, HasWrittenPart}
 use Rattle.run_commands.specs.Workers.{IsNewSession}
 
--- a session without what taking the history changes of it: the front of the history that it knows, its pieces, and the look that it has to make
+-- a session without what taking the history changes of it: the front of the history that it knows, and its pieces
 abbrev pub bare : TicketView → TicketView
-bare session = record session { front = []; pieces = []; looks = false }
+bare session = record session { front = []; pieces = [] }
 
 -- the history that begins with this front is legal, and the output, which held `old` before, grew by the text of its first
 -- `next` entries

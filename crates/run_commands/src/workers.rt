@@ -5,14 +5,11 @@ ghost use Rattle.run_commands.specs.Calls.{calls_of_rows};
 ghost use Rattle.run_commands.specs.Workers.{TriedAtMost, fault_of_stop, rank_of_stop};
 
 use crate::call_gate::Gate;
-use combining::{CallOutcome as CallOutcomeOf, Nobody, UNBOUNDED, back_off};
-use lock_desk::{Call, Reply};
-use lock_office::{Office, Session, WithSeen};
+use combining::{Nobody, UNBOUNDED, back_off, tries_at};
+use lock_desk::Call;
+use lock_office::{CallOutcome, Office, Program, Session, WithSeen};
 use lock_trace::TraceRow;
 use replay_commands::ToolFault;
-
-/// The outcome of one turn of a call.
-type CallOutcome = CallOutcomeOf<Reply>;
 
 /// Why a thread stopped before its last row, or why a run failed. If there are several reasons, the first in this order is
 /// reported.
@@ -72,9 +69,9 @@ pub(crate) trait Service: Sync {
     // the session's last turn was starved
     ghost was_starved: { Self.Session → Type 0 };
 
-    /// Makes one turn of a call of the session, behind `made` turns. A session with a call pending goes on with that one,
+    /// Makes one turn of a call of the session, after `made` turns. A session with a call pending goes on with that one,
     /// whatever `call` is. `Answered`: the answer is collected. `Starved`: memory was refused, and the call is pending. `Wait`:
-    /// the call is pending, or not made yet; another turn goes on, after this wait.
+    /// the call is pending, or not made yet; another turn goes on.
     fn turn(&self, session: &mut Self::Session, call: &Call, made: u64) -> CallOutcome
         requires { is_of self.now session.old }
         ensures ours { is_of self.now session.new }
@@ -84,7 +81,7 @@ pub(crate) trait Service: Sync {
         } }
         ensures pending { result ≡ CallOutcome.Starved → calls session.new ≡ record (calls session.old) { pending = Some (unwrap_or (calls session.old).pending call.now) } }
         ensures starved { result ≡ CallOutcome.Starved → was_starved session.new }
-        ensures waits { (wait : _) → result ≡ CallOutcome.Wait wait → (calls session.new ≡ calls session.old)
+        ensures waits { result ≡ CallOutcome.Wait → (calls session.new ≡ calls session.old)
             ⊎ (calls session.new ≡ record (calls session.old) { pending = Some (unwrap_or (calls session.old).pending call.now) }) }
         ensures tried { (tries : ℕ) → result ≢ CallOutcome.Starved → has_tried session.old tries → has_tried session.new (tries + 1) };
 }
@@ -108,9 +105,19 @@ impl Service for Office {
     // nor does it remember a starved turn
     ghost was_starved = { λ session. Unit {0} };
 
-    /// Makes the turn, and tells nobody whose waits its passes have ended.
+    /// Makes the turn, and tells nobody whose waits its passes have ended. The first turn tries to perform the call at once, as a program
+    /// of one call; the next one publishes it, and looks for the answer.
     fn turn(&self, session: &mut Session, call: &Call, made: u64) -> CallOutcome {
-        session.turn(self, call, made, UNBOUNDED, &mut WithSeen::new(Nobody))
+        let mut nobody = WithSeen::new(Nobody);
+        if !session.is_idle() {
+            return session.run_look(self, tries_at(made), UNBOUNDED, &mut nobody);
+        }
+        let program = Program::one(*call);
+        if made == 0 {
+            return session.run_attempt(self, &program, UNBOUNDED, &mut nobody);
+        }
+        session.publish_program_if_idle(self, program);
+        session.run_look(self, true, UNBOUNDED, &mut nobody)
     }
 }
 
@@ -136,7 +143,7 @@ fn make_call<S: Service>(
         match service.turn(session, &call, made) {
             CallOutcome::Answered(_) => return Ok(()),
             CallOutcome::Starved => return Err(Stop::NoMemory),
-            CallOutcome::Wait(wait) => back_off(wait),
+            CallOutcome::Wait => back_off(made),
         }
     }
     Err(Stop::TurnLimit)

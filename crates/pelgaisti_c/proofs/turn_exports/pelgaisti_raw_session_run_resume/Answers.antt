@@ -14,5 +14,5 @@ returns-clause-look c = λ _ _.
       was,
       c.put.ensures.1,
       subst (λ (unanswered : ProgramAnswerNumbers). HasMadeLook TellsAll (λ (_ : Program). true) c.deref_mut.result.now made.new.share
-          c.args.looked c.args.turns unanswered made.new.answer c.args.wait.now made.new.wait c.args.told.now made.new.told made.result) before made.ensures.look,
+          c.args.tries unanswered made.new.answer c.args.told.now made.new.told made.result) before made.ensures.look,
     )

@@ -10,12 +10,11 @@ returns-clause-turn c = λ _ _.
     let same : c.in-Some-get.value ≡ c.args.program.now.behind = search rules in
     let before : c.in-Some-get-2.value.now ≡ c.args.answer.now.behind = search rules in
     let made = c.turn-status in
-    let turned = subst (λ (asked : ProgramNumbers). HasMadeTurn IsOfCalls IsRunFault TellsAll c.deref_mut.result.now made.new.share asked c.args.made c.args.turns c.in-Some-get-2.value.now made.new.answer
-    c.args.wait.now made.new.wait c.args.told.now made.new.told made.result) same made.ensures.turn in (
+    let turned = subst (λ (asked : ProgramNumbers). HasMadeTurn IsOfCalls IsRunFault TellsAll c.deref_mut.result.now made.new.share asked c.args.tries c.in-Some-get-2.value.now made.new.answer c.args.told.now made.new.told made.result) same made.ensures.turn in (
       c.deref_mut.result.now,
       made.new.share,
       was,
       c.put.ensures.1,
       subst (λ (unanswered : ProgramAnswerNumbers). HasMadeTurn IsOfCalls IsRunFault TellsAll c.deref_mut.result.now made.new.share c.args.program.now.behind
-          c.args.made c.args.turns unanswered made.new.answer c.args.wait.now made.new.wait c.args.told.now made.new.told made.result) before turned,
+          c.args.tries unanswered made.new.answer c.args.told.now made.new.told made.result) before turned,
     )
