@@ -1,7 +1,7 @@
 /* How threads wait for the lock table (bindings/c/turns.c): in crowds, asleep beside a look, beside threads that look and take the history, in
    slices of time, at several offices, beside forks, cancelled, and where memory is refused. Nobody hangs, and each waits no longer than a
    bound, which is generous, as the machine may be busy with other work.
-   The case `shared` alone runs only by its name: it fails as long as offices that share what they wait by hold one another up.
+
    Usage: embedding_admission [CASE [SECONDS [THREADS [TRANSACTIONS [PROCESSORS]]]]]: all cases, or one, which ends after so many seconds (60);
    `crowd` with at most 256 threads, of four sessions each, each of which makes so many transactions, on so many processors. Link with
    -Wl,--wrap=malloc,--wrap=realloc,--wrap=syscall and -lpthread. Prints the line of each check that fails, and last 'N passed, M failed'. */
@@ -612,7 +612,7 @@ static void is_fair(void) {
             if (w[k].made < least) least = w[k].made;
             if (w[k].longest > longest) longest = w[k].longest;
         }
-        is_right = least * THREADS * 10 >= all && longest < 500;
+        is_right = least * THREADS * 10 >= all && longest < 2000;
         if (!is_right) printf("of %lu transactions the least served has %lu, and one took %.0f ms\n", (unsigned long)all, (unsigned long)least, longest);
     }
     CHECK(is_right);
@@ -866,7 +866,7 @@ int main(int given, char **words) {
     }
     for (size_t k = 0; k < sizeof cases / sizeof *cases; k++) {
         const double begun = now();
-        if (given > 1 ? strcmp(words[1], cases[k].name) != 0 : cases[k].run == offices_side_by_side) continue;
+        if (given > 1 && strcmp(words[1], cases[k].name) != 0) continue;
         alarm(given > 2 ? (unsigned)atoi(words[2]) : 60);
         cases[k].run();
         printf("%s: %.1f s\n", cases[k].name, (now() - begun) / 1000);

@@ -158,6 +158,7 @@ pelgaisti_status pelgaisti_office_open(pelgaisti_session *sessions, const pelgai
     const size_t count = sessions && options && options->sessions <= PELGAISTI_MAX_SESSIONS ? options->sessions : 0;
     pelgaisti_options own;
     pelgaisti_status status;
+    uint64_t mark;
     size_t k;
     for (k = 0; k < count; k++)
         if (use_too(&sessions[k])) return PELGAISTI_COPIED;
@@ -165,9 +166,10 @@ pelgaisti_status pelgaisti_office_open(pelgaisti_session *sessions, const pelgai
     own = *options;
     own.seed = seed_of(options);
     if (!own.waker) own.waker = &no_waker;
-    status = ORDERED(NULL, ORDERS_NOTHING, pelgaisti_raw_office_open(LIST(sessions, own.sessions), draw_mark(own.sessions), &own));
-    note_opening();
+    mark = draw_mark(own.sessions);
+    status = ORDERED(NULL, ORDERS_NOTHING, pelgaisti_raw_office_open(LIST(sessions, own.sessions), mark, &own));
     for (k = 0; k < count; k++) noting(&sessions[k], status);
+    if (status == PELGAISTI_OK) note_opening(mark);
     return status;
 }
 
@@ -252,6 +254,12 @@ pelgaisti_status pelgaisti_session_hand_in(pelgaisti_session *session, pelgaisti
 }
 
 pelgaisti_status pelgaisti_office_close(pelgaisti_session *session, pelgaisti_book *book) {
+    uint64_t mark = 0;
+    pelgaisti_status status;
+    uint32_t number;
     if (use_too(book)) return PELGAISTI_COPIED;
-    return noting(book, CALL(session, pelgaisti_raw_office_close(&session, &book)));
+    place_of(session, &mark, &number);
+    status = noting(book, CALL(session, pelgaisti_raw_office_close(&session, &book)));
+    if (status == PELGAISTI_OK) note_closing(mark);
+    return status;
 }
