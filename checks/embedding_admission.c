@@ -1,6 +1,7 @@
 /* How threads wait for the lock table (bindings/c/turns.c): in crowds, asleep beside a look, beside threads that look and take the history, in
    slices of time, at several offices, beside forks, cancelled, and where memory is refused. Nobody hangs, and each waits no longer than a
    bound, which is generous, as the machine may be busy with other work.
+
    Usage: embedding_admission [CASE [SECONDS [THREADS [TRANSACTIONS [PROCESSORS]]]]]: all cases, or one, which ends after so many seconds (60);
    `crowd` with at most 256 threads, of four sessions each, each of which makes so many transactions, on so many processors. Link with
    -Wl,--wrap=malloc,--wrap=realloc,--wrap=syscall and -lpthread. Prints the line of each check that fails, and last 'N passed, M failed'. */
@@ -27,8 +28,8 @@ static int passed, failed;
     } while (0)
 
 static pelgaisti_session s[MOST * EACH];
-static int is_over, refuses, is_slow_to_come;
-static uint64_t allocations, refused, starved, sleeps, returned;
+static int is_over, refuses, is_slow_to_come, is_slow_to_go_on;
+static uint64_t allocations, refused, starved, sleeps, entered, returned, answered;
 static __thread uint64_t own_wakes;
 
 /* ---- What the library calls: allocations, which are refused now and then, and sleeps in the kernel, which are counted. ---- */
@@ -57,14 +58,16 @@ void *__wrap_malloc(size_t size) { return is_refused() ? NULL : __real_malloc(si
 
 void *__wrap_realloc(void *at, size_t size) { return is_refused() ? NULL : __real_realloc(at, size); }
 
-/* Holds up every eighth thread that is about to sleep, so that it is called up before; and, if they are to be slow, each that was called up. */
+/* Holds up every eighth thread that is about to sleep, so that it is called up before; and, if they are to be slow, each that was called up, or
+   has called up another. */
 long __wrap_syscall(long number, long a, long b, long c, long d, long e, long f) {
-    const int sleeps_now = number == SYS_futex && b == FUTEX_WAIT_PRIVATE;
+    const int sleeps_now = number == SYS_futex && b == FUTEX_WAIT_PRIVATE, wakes_now = number == SYS_futex && b == FUTEX_WAKE_PRIVATE;
     long result;
     if (sleeps_now && __atomic_add_fetch(&sleeps, 1, __ATOMIC_RELAXED) % 8 == 0) pause_for(0.05);
-    if (number == SYS_futex && b == FUTEX_WAKE_PRIVATE) own_wakes++;
+    if (wakes_now) own_wakes++;
     result = __real_syscall(number, a, b, c, d, e, f);
     if (sleeps_now && __atomic_load_n(&is_slow_to_come, __ATOMIC_RELAXED)) pause_for(0.2);
+    if (wakes_now && __atomic_load_n(&is_slow_to_go_on, __ATOMIC_RELAXED)) pause_for(2);
     return result;
 }
 
@@ -238,6 +241,7 @@ static void wait_for(sem_t *it) {
 static void *call_when_told(void *at) {
     caller *it = at;
     for (wait_for(&it->go); !it->ends; wait_for(&it->go)) {
+        count(&entered);
         it->reply = ask(it->session, PELGAISTI_POLL);
         it->answered = now();
         count(&returned);
@@ -250,7 +254,7 @@ static void *call_when_told(void *at) {
 /* In an office of that many sessions and one: all but the first have an open transaction. */
 static void start_callers(uint32_t many) {
     open_for(many + 1);
-    returned = 0;
+    entered = returned = 0;
     MUST(sem_init(&done, 0, 0) == 0);
     for (uint32_t k = 0; k < many; k++) {
         callers[k].session = &s[k + 1];
@@ -460,32 +464,47 @@ static void many_transactions(pelgaisti_session *session, int count_of) {
     for (int k = 0; k < count_of; k++) begin(session), commit(session);
 }
 
-/* Makes transactions until all is over, and tells how often it called somebody up. */
+static double own_time(void) {
+    struct timespec time;
+    clock_gettime(CLOCK_THREAD_CPUTIME_ID, &time);
+    return (double)time.tv_sec * 1e3 + (double)time.tv_nsec / 1e6;
+}
+
+/* Makes transactions until all is over, and tells how often it called somebody up, and how much of a processor it had meanwhile. */
+typedef struct runner {
+    uint64_t calls_up;
+    double share;
+} runner;
+
 static void *go_on(void *at) {
+    runner *it = at;
+    const double begun = now();
     while (!__atomic_load_n(&is_over, __ATOMIC_RELAXED)) many_transactions(&s[0], 100);
-    *(uint64_t *)at = own_wakes;
+    it->calls_up = own_wakes;
+    it->share = own_time() / (now() - begun);
     return NULL;
 }
 
-/* Beside a thread that never stops another begins now and then. Most times it is called up by that one, unless the machine had no time for
-   that one: if so, once more. */
+/* Beside a thread that never stops another begins now and then. If that one had a processor to itself, it calls the other up most times: else
+   this is tried again, and not judged if the machine is too busy. */
 static void begins_beside_another(void) {
     enum { TIMES = 50 };
     static double took[TIMES];
-    uint64_t most = 0;
+    int is_tried = 0, is_right = 0;
     open_for(2);
     warm_up(1);
-    for (int tries = 0; tries < 3 && most < TIMES / 2; tries++) {
-        uint64_t calls_up = 0;
+    for (int tries = 0; tries < 5 && !is_right; tries++) {
+        runner it = {0, 0};
         pthread_t thread;
-        MUST(pthread_create(&thread, NULL, go_on, &calls_up) == 0);
+        MUST(pthread_create(&thread, NULL, go_on, &it) == 0);
         for (int k = 0; k < TIMES; k++) pause_for(2), took[k] = begin_once(&s[1]);
         end_one(thread);
         sort(took, TIMES);
-        CHECK(took[TIMES / 2] < 50 && took[TIMES - 1] < 5000);
-        if (calls_up > most) most = calls_up;
+        CHECK(took[TIMES / 2] < 200 && took[TIMES - 1] < 5000);
+        is_tried |= it.share > 0.8;
+        is_right = it.calls_up >= TIMES / 2;
     }
-    CHECK(most >= TIMES / 2);
+    CHECK(is_right || !is_tried);
     close_all(s, 2);
 }
 
@@ -593,7 +612,7 @@ static void is_fair(void) {
             if (w[k].made < least) least = w[k].made;
             if (w[k].longest > longest) longest = w[k].longest;
         }
-        is_right = least * THREADS * 10 >= all && longest < 500;
+        is_right = least * THREADS * 10 >= all && longest < 2000;
         if (!is_right) printf("of %lu transactions the least served has %lu, and one took %.0f ms\n", (unsigned long)all, (unsigned long)least, longest);
     }
     CHECK(is_right);
@@ -655,6 +674,48 @@ static void offices_by_turns(void) {
     }
     CHECK(least < 500);
     for (int k = 0; k < OFFICES; k++) close_all(own[k], 2);
+}
+
+static void *poll_once(void *at) {
+    MUST(ask(at, PELGAISTI_POLL).kind == PELGAISTI_CLEAR);
+    count(&answered);
+    return NULL;
+}
+
+/* While many wait for the table of one office, at which another session looks, a call at another office sleeps for a look there, and is
+   answered soon after it: so at as many offices as there are ways to wait, and more. Those that wait are slow to go on. */
+static void offices_side_by_side(void) {
+    enum { THREADS = 16, OFFICES = 100 };
+    pelgaisti_book view = PELGAISTI_EMPTY, view_of_other = PELGAISTI_EMPTY;
+    pelgaisti_session own[2] = {PELGAISTI_EMPTY, PELGAISTI_EMPTY};
+    pthread_t thread, threads[THREADS];
+    int late = 0;
+    open_for(THREADS + 1);
+    for (int k = 0; k < THREADS; k++) begin(&s[k + 1]);
+    look(&s[0], &view);
+    for (int k = 0; k < THREADS; k++) MUST(pthread_create(&threads[k], NULL, poll_once, &s[k + 1]) == 0);
+    pause_for(10);
+    __atomic_store_n(&is_slow_to_go_on, 1, __ATOMIC_RELAXED);
+    for (int k = 0; k < OFFICES && !late; k++) {
+        MUST(open_office_with(own, 2, KEPT, NULL, 0) == PELGAISTI_OK);
+        begin(&own[1]);
+        look(&own[0], &view_of_other);
+        answered = 0;
+        MUST(pthread_create(&thread, NULL, poll_once, &own[1]) == 0);
+        pause_for(1);
+        end_look(&own[0], &view_of_other);
+        for (int waited = 0; waited < 1000 && value(&answered) == 0; waited++) pause_for(1);
+        late = value(&answered) == 0;
+        if (late) end_look(&s[0], &view);
+        MUST(pthread_join(thread, NULL) == 0);
+        close_all(own, 2);
+    }
+    CHECK(late == 0);
+    __atomic_store_n(&is_slow_to_go_on, 0, __ATOMIC_RELAXED);
+    if (!late) end_look(&s[0], &view);
+    for (int k = 0; k < THREADS; k++) MUST(pthread_join(threads[k], NULL) == 0);
+    for (int k = 0; k < THREADS; k++) commit(&s[k + 1]);
+    close_all(s, THREADS + 1);
 }
 
 static void offices(void) {
@@ -724,6 +785,7 @@ static void cancel(void) {
     start_callers(CALLERS);
     look(&s[0], &view);
     for (uint32_t k = 0; k < CALLERS; k++) tell(k);
+    while (value(&entered) < CALLERS) pause_for(1);
     pause_for(20);
     for (uint32_t k = 0; k < CALLERS; k += 2) MUST(pthread_cancel(callers[k].thread) == 0);
     pause_for(5);
@@ -792,7 +854,7 @@ static void memory(void) {
 int main(int given, char **words) {
     static const struct { const char *name; void (*run)(void); } cases[] = {
         {"constructed", constructed}, {"crowd", crowd}, {"sleepers", sleepers}, {"looks", looks}, {"slices", slices}, {"offices", offices},
-        {"fork", forks}, {"cancel", cancel}, {"memory", memory}};
+        {"shared", offices_side_by_side}, {"fork", forks}, {"cancel", cancel}, {"memory", memory}};
     if (given > 3) crowd_threads = (uint32_t)atoi(words[3]);
     if (given > 4) crowd_each = strtoull(words[4], NULL, 10);
     MUST(crowd_threads <= MOST);

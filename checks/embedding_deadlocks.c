@@ -433,20 +433,21 @@ struct clerk {
     char text[400]; /* why it became a victim */
 };
 
-enum { SESSIONS = 2, KEPT = 4 };
+enum { SESSIONS = 2, KEPT = 4, MEMBERS = KEPT * SESSIONS };
 
 /* Writes why this transaction of the session became a victim: the text of the newest deadlock whose victim it was. docs/EMBEDDING.md has
    this. */
 static void tell_cycle(pelgaisti_session *session, uint64_t transaction, char *text, size_t room) {
     pelgaisti_deadlock list[KEPT];
-    pelgaisti_member members[KEPT * SESSIONS];
+    pelgaisti_member members[MEMBERS];
     size_t count, member_count, first = 0; /* `first`: where the members of a deadlock begin */
     pelgaisti_book view = PELGAISTI_EMPTY;
     pelgaisti_status status;
     look(session, &view);
-    status = pelgaisti_book_deadlocks(&view, list, KEPT, &count, members, KEPT * SESSIONS, &member_count);
+    status = pelgaisti_book_deadlocks(&view, list, KEPT, &count, members, MEMBERS, &member_count);
     end_look(session, &view);
-    for (size_t k = 0; status == PELGAISTI_OK && k < count; first += list[k++].members)
+    if (status != PELGAISTI_OK) return;
+    for (size_t k = 0; k < count && k < KEPT && first + list[k].members <= MEMBERS; first += list[k++].members)
         if (members[first].request.transaction == transaction) pelgaisti_deadlock_text(&list[k], &members[first], text, room);
 }
 

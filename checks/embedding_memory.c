@@ -682,8 +682,11 @@ static void deadlocks(void) {
    entries by a third, whose call of one turn is left pending. The calls of all three are answered afterwards. */
 static void elsewhere(void) {
     pelgaisti_session sessions[3] = {PELGAISTI_EMPTY, PELGAISTI_EMPTY, PELGAISTI_EMPTY};
-    pelgaisti_book book = PELGAISTI_EMPTY;
+    pelgaisti_book book = PELGAISTI_EMPTY, view = PELGAISTI_EMPTY;
     pelgaisti_answer answer;
+    pelgaisti_entry entry;
+    uint64_t first = 99;
+    size_t count = 99;
     CHECK(open_sessions(sessions, 3) == PELGAISTI_OK);
     for (int k = 0; k < 2; k++) CHECK(pelgaisti_session_publish(&sessions[k], &begin, NULL) == PELGAISTI_OK);
     unwritten.served = unwritten.starved = 99;
@@ -696,6 +699,12 @@ static void elsewhere(void) {
     CHECK(pelgaisti_session_collect(&sessions[2], &answer) == PELGAISTI_NOT_SERVED);
     CHECK(pelgaisti_session_serve(&sessions[1], NULL) == PELGAISTI_OK);
     for (int k = 0; k < 3; k++) CHECK(pelgaisti_session_collect(&sessions[k], &answer) == PELGAISTI_OK && answer.reply.kind == PELGAISTI_BEGAN);
+    /* a take asks for memory before it tries for the table, as the header lists it */
+    look(&sessions[0], &view);
+    left = 0;
+    CHECK(pelgaisti_session_take_history(&sessions[1], &first, &entry, 1, &count) == PELGAISTI_NO_MEMORY && left == -1);
+    CHECK(pelgaisti_session_take_history(&sessions[1], &first, &entry, 1, &count) == PELGAISTI_ELSEWHERE && first == 99 && count == 99);
+    end_look(&sessions[0], &view);
     for (int k = 1; k < 3; k++) CHECK(pelgaisti_session_hand_in(&sessions[k], &sessions[0]) == PELGAISTI_OK);
     CHECK(pelgaisti_office_close(&sessions[0], &book) == PELGAISTI_OK && length_of(&book) == 3);
     CHECK(pelgaisti_book_close(&book) == PELGAISTI_OK);

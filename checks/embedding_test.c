@@ -87,13 +87,15 @@ static const struct {
 /* What the pointers point to: handles are closed, and else nothing is a number that a call takes. */
 static unsigned char pointed_to[9][64];
 
+/* Those with which nothing is opened: of no sessions, or of one whose handle isn't where it was opened. */
+static pelgaisti_options openings = PELGAISTI_OPTIONS(0);
+
 /* The status of a call whose argument `off` is NULL, if there is one, and whose lists have so much room. */
 static uint32_t status_with(size_t k, size_t off, uintptr_t room) {
-    static const pelgaisti_options none = PELGAISTI_OPTIONS(0);
     uintptr_t a[9] = {0, 0, 0, 0, 0, 0, 0, 0, 0};
     for (size_t n = 0; all_calls[k].arguments[n]; n++) {
         const char is = all_calls[k].arguments[n];
-        a[n] = is == 'r' ? room : is == 'n' || n == off ? 0 : is == 'q' ? (uintptr_t)&none : (uintptr_t)pointed_to[n];
+        a[n] = is == 'r' ? room : is == 'n' || n == off ? 0 : is == 'q' ? (uintptr_t)&openings : (uintptr_t)pointed_to[n];
     }
     return all_calls[k].call(a[0], a[1], a[2], a[3], a[4], a[5], a[6], a[7], a[8]);
 }
@@ -122,12 +124,14 @@ static void null_is_refused(void) {
     }
 }
 
-/* Each call with an open handle that isn't where it was opened returns COPIED, and writes nothing: its pointer leads nowhere. */
+/* Each call with an open handle that isn't where it was opened returns COPIED, also beside a NULL, and writes nothing: its pointer leads
+   nowhere. Only of an office's opening the options, without which no number of handles is known, come first. */
 static void astray_handles_are_told(void) {
     static const pelgaisti_session astray[2] = {{1, 0x55555555, (void *)1}, {2, 0x55555555, (void *)1}}, closed = PELGAISTI_EMPTY;
     static const char *const of_two[] = {"session_hear", "session_hand_in", "office_close", "session_look", "look_end"};
     unsigned char before[9][64];
     memset(pointed_to, 0x55, sizeof pointed_to);
+    openings.sessions = 1;
     for (size_t which = 0; which < 4; which++) /* the first handle or the second; a view, too */
         for (size_t k = 0; k < COUNT(all_calls); k++) {
             const char *name = all_calls[k].name;
@@ -138,8 +142,11 @@ static void astray_handles_are_told(void) {
             memcpy(pointed_to[0], place == 0 ? &astray[which / 2] : &closed, sizeof closed);
             memcpy(pointed_to[1], place == 1 ? &astray[which / 2] : &closed, sizeof closed);
             memcpy(before, pointed_to, sizeof before);
-            if (status_with(k, 9, 1) != PELGAISTI_COPIED) printf("%s: ", name);
-            CHECK(status_with(k, 9, 1) == PELGAISTI_COPIED && !memcmp(before, pointed_to, sizeof before));
+            for (size_t off = 0; off <= strlen(all_calls[k].arguments); off++) {
+                if (off == place || (off == 1 && !strcmp(name, "office_open"))) continue;
+                if (status_with(k, off, 1) != PELGAISTI_COPIED) printf("%s, %d: ", name, (int)off);
+                CHECK(status_with(k, off, 1) == PELGAISTI_COPIED && !memcmp(before, pointed_to, sizeof before));
+            }
         }
 }
 
@@ -1367,6 +1374,9 @@ static void programs_refuse(void) {
         program.start = off_starts[k];
         CHECK(is_unrun(&book, 1, program, PELGAISTI_NO_SUCH_START));
     }
+    /* no call at all, and with a last op of 0 what `start` says */
+    program.start = program.last.op = 0;
+    CHECK(is_unrun(&book, 1, program, PELGAISTI_NO_SUCH_OP) && is_unrun(&book, 0, program, PELGAISTI_NO_SUCH_SESSION));
     for (program.start = 0; program.start < 7; program.start++) {
         for (size_t k = 1; k < COUNT(off_ops); k++) {
             program.last.op = off_ops[k];
@@ -1414,9 +1424,9 @@ static pelgaisti_program_answer run(pelgaisti_book *book, uint32_t session, pelg
     CHECK(pelgaisti_book_run(book, session, &program, &answer) == PELGAISTI_OK);
     CHECK(length_of(book, &after) == PELGAISTI_OK && after == length + served);
     CHECK(answer.place == length && answer.served == served && answer.starved == 0);
-    CHECK(served == 0 || (pelgaisti_book_ended(book, NULL, 0, &count) == PELGAISTI_OK && count == 0));
+    CHECK(pelgaisti_book_ended(book, NULL, 0, &count) == PELGAISTI_OK && count == 0);
     read_replies(&program, &answer);
-    CHECK(served == 0 || told[served - 1].kind == kind);
+    CHECK(told[served - 1].kind == kind);
     CHECK(answer.stop == (kind == PELGAISTI_WAITING || kind == PELGAISTI_DEADLOCK || kind == PELGAISTI_REFUSED ? kind : 0));
     for (uint32_t k = 0; k < PELGAISTI_CALLS; k++) CHECK(answer.values[k] == told[k].value);
     return answer;
@@ -1433,7 +1443,6 @@ static void programs_are_run(void) {
     uint32_t list[3] = {77, 77, 77}, mode = 99;
     size_t count = 99;
     CHECK(open_book(&book, 3) == PELGAISTI_OK);
-    run(&book, 1, program_of(PELGAISTI_NOTHING, none), 0, 0);
     CHECK(run(&book, 1, program_of(PELGAISTI_BEGINS, none), 1, PELGAISTI_BEGAN).values[0] == 1);
     run(&book, 1, program_of(PELGAISTI_COMMITS, none), 1, PELGAISTI_COMMITTED);
     CHECK(run(&book, 1, program_of(PELGAISTI_BEGINS, poll), 2, PELGAISTI_CLEAR).values[0] == 2 && told[0].kind == PELGAISTI_BEGAN);
@@ -2580,12 +2589,17 @@ static void wakers_are_registered(void) {
     pelgaisti_book book = PELGAISTI_EMPTY;
     pelgaisti_call begin = call_of(PELGAISTI_BEGIN, 0, 0, 0, 0), commit = call_of(PELGAISTI_COMMIT, 0, 0, 0, 0);
     const pelgaisti_waker nobody = {NULL, tally};
+    pelgaisti_session *const nowhere = (pelgaisti_session *)(uintptr_t)8;
     uint64_t first = 99;
 
     CHECK(open_office_with(NULL, 2, UINT64_MAX, &tallies, 0) == PELGAISTI_NULL && pelgaisti_office_open(sessions, NULL) == PELGAISTI_NULL);
     CHECK(open_office_with(sessions, 2, UINT64_MAX, &nobody, 0) == PELGAISTI_NULL);
     CHECK(open_office_with(sessions, 0, UINT64_MAX, &tallies, 0) == PELGAISTI_NO_SUCH_COUNT);
     CHECK(open_office_with(many, PELGAISTI_MAX_SESSIONS + 1, UINT64_MAX, &tallies, 0) == PELGAISTI_NO_SUCH_COUNT);
+    /* no handle is looked at where their number isn't known, or is out of its range */
+    CHECK(pelgaisti_office_open(nowhere, NULL) == PELGAISTI_NULL && open_office_with(nowhere, 0, 1, &nobody, 0) == PELGAISTI_NULL);
+    for (size_t k = 0; k < 2; k++)
+        CHECK(open_office_with(nowhere, k * (PELGAISTI_MAX_SESSIONS + 1), 1, NULL, 0) == PELGAISTI_NO_SUCH_COUNT);
     CHECK(open_office_with(sessions, 2, 1, &tallies, 0) == PELGAISTI_OK);
     CHECK(open_office_with(&sessions[1], 2, UINT64_MAX, &tallies, 0) == PELGAISTI_OPEN);
     CHECK(open_sessions(other, 1) == PELGAISTI_OK);

@@ -205,7 +205,7 @@ static void programs() {
     CHECK(replies.size() == 4 && replies[0].kind == kind::began && replies[1].value == PELGAISTI_IX && replies[3].value == PELGAISTI_X);
     answer = book.run(2, program::locks(start::begins, {7, 2}, mode::S));
     CHECK(answer.place == 4 && answer.served == 3 && answer.stopped_at(kind::waiting) && book.ended().empty());
-    CHECK(book.run(1, program(start::nothing)).served == 0);
+    CHECK(throws(PELGAISTI_NO_SUCH_OP, [&] { static_cast<void>(book.run(1, program(start::nothing))); }));
     answer = book.run(1, program::locks(start::commits_and_begins, {8, 1}, mode::X, 0));
     CHECK(answer.served == 4 && answer.values[0] == 3 && answer.values[1] == 3 && book.ended() == std::vector<std::uint32_t>{2});
     CHECK(book.run(1, program::locks(start::nothing, {8, 2}, mode::X, 1)).served == 1);

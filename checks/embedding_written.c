@@ -119,8 +119,18 @@ static void of_an_office(void) {
     OK(pelgaisti_book_close(&book));
 }
 
+/* What is returned by value. */
+static void by_value(void) {
+    const pelgaisti_call call = pelgaisti_path_call(&page, PELGAISTI_S, 0);
+    const pelgaisti_options options = pelgaisti_default_options(2);
+    READ(call);
+    READ(options);
+    if (call.op != PELGAISTI_LOCK || call.mode != PELGAISTI_IS || call.resource.level != 1 || options.sessions != 2) faults++;
+}
+
 int main(int argc, char **argv) {
     (void)argv;
+    by_value();
     of_a_book();
     of_an_office();
     if (argc == 2) {

@@ -47,7 +47,7 @@ static pelgaisti_resource record_of(uint32_t table, uint32_t record) {
 static pelgaisti_reply ask(worker *w, uint32_t op) {
     const pelgaisti_call call = {op, 0, {0, {0}}};
     pelgaisti_answer answer;
-    pelgaisti_status status = pelgaisti_session_perform(w->session, &call, UINT64_MAX, &answer);
+    pelgaisti_status status = pelgaisti_session_perform(w->session, &call, PELGAISTI_ALL_TURNS, &answer);
     if (status != PELGAISTI_OK) stop("perform", pelgaisti_status_name(status));
     return answer.reply;
 }
@@ -70,7 +70,7 @@ static int start_with(worker *w, uint32_t table, uint32_t record) {
     const pelgaisti_program program = {w->start, 0, PELGAISTI_IX, {PELGAISTI_LOCK, PELGAISTI_X, record_of(table, record)}};
     pelgaisti_program_answer made;
     pelgaisti_lock_answer answer;
-    pelgaisti_status status = pelgaisti_session_run(w->session, &program, UINT64_MAX, &made);
+    pelgaisti_status status = pelgaisti_session_run(w->session, &program, PELGAISTI_ALL_TURNS, &made);
     if (status != PELGAISTI_OK || made.starved) stop("run", pelgaisti_status_name(status));
     if (made.stop == 0) return 1;
     status = pelgaisti_session_wait(w->session, LONG, &answer);

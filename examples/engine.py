@@ -8,7 +8,7 @@ threads run.
 
 It takes the shared library and the header, from which the numbers of statuses, calls and replies are read, out of the folder that the
 first argument or PELGAISTI_PREFIX names: the prefix of an install, or a folder that has both. Else it takes those of the archive or of the
-checkout that it lies in. Each thread makes 200 moves, or as many as a second argument says.
+checkout that it lies in; of a checkout also those of ./embed --try, of which nothing is proved, and says so. Each thread makes 200 moves, or as many as a second argument says.
 """
 import ctypes
 import os
@@ -21,18 +21,19 @@ from pathlib import Path
 
 
 def found():
-    """Returns the folders of the header and of the shared library."""
+    """Returns the folder of the header and the shared library: one that is proved, where there is any."""
     above = list(Path(__file__).resolve().parents)
     given = sys.argv[1] if len(sys.argv) > 1 else os.environ.get("PELGAISTI_PREFIX")
-    for prefix in [Path(given)] if given else [above[1] / "out", *above[4:5]]:
+    for prefix in [Path(given)] if given else [above[1] / "out", *above[4:5], above[1] / "out/try"]:
         for include, lib in ((prefix / "include", prefix / "lib"), (prefix, prefix)):
-            if (include / "pelgaisti.h").is_file() and any(lib.glob("libpelgaisti.so.*")):
-                return include, lib.resolve()
+            for library in [*lib.glob("libpelgaisti.so.*"), *lib.glob("libpelgaisti_unproved.so.*")]:
+                if (include / "pelgaisti.h").is_file():
+                    return include, library.resolve()
     sys.exit(f"engine.py: neither {given or 'the folder that it lies in'} nor its include and lib have pelgaisti.h and libpelgaisti.so: "
              "name a folder, or set PELGAISTI_PREFIX")
 
 
-INCLUDE, LIB = found()
+INCLUDE, FILE = found()
 MOVES = int(sys.argv[2]) if len(sys.argv) > 2 else 200
 ACCOUNTS, BALANCE, THREADS = 6, 100, 4
 
@@ -79,7 +80,9 @@ class Book(Structure):
     _fields_ = [("is_open", c_uint32), ("note", c_uint32), ("at", c_void_p), ("look", c_void_p)]
 
 
-LIBRARY = ctypes.CDLL(str(LIB / f"libpelgaisti.so.{VERSION}"))
+if "unproved" in FILE.name:
+    print(f"engine.py: nothing of {FILE} is proved", file=sys.stderr)
+LIBRARY = ctypes.CDLL(str(FILE))
 LIBRARY.pelgaisti_version.restype = c_uint32
 if LIBRARY.pelgaisti_version() != VERSION:
     sys.exit("engine.py: the library is of another version than the header")

@@ -32,7 +32,7 @@ static uint32_t ask(pelgaisti_session *session, uint32_t op, const pelgaisti_res
     pelgaisti_call call = {op, mode, {0, {0}}};
     pelgaisti_answer answer;
     if (on != NULL) call.resource = *on;
-    pelgaisti_status status = pelgaisti_session_perform(session, &call, UINT64_MAX, &answer);
+    pelgaisti_status status = pelgaisti_session_perform(session, &call, PELGAISTI_ALL_TURNS, &answer);
     must(status == PELGAISTI_OK, pelgaisti_op_name(op), pelgaisti_status_name(status));
     return answer.reply.kind;
 }

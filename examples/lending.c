@@ -58,7 +58,7 @@ static void give_back(unsigned lent) {
 static uint32_t ask(unsigned lent, uint32_t op) {
     const pelgaisti_call call = {op, 0, {0, {0}}};
     pelgaisti_answer answer;
-    pelgaisti_status status = pelgaisti_session_perform(&sessions[lent], &call, UINT64_MAX, &answer);
+    pelgaisti_status status = pelgaisti_session_perform(&sessions[lent], &call, PELGAISTI_ALL_TURNS, &answer);
     must(status == PELGAISTI_OK, pelgaisti_op_name(op), pelgaisti_status_name(status));
     return answer.reply.kind;
 }

@@ -19,7 +19,7 @@
 #include <string.h>
 
 /* The rows have room for all that five sessions with two locks each, and their ancestor, can have. */
-enum { WORKERS = 4, MONITOR = WORKERS, SESSIONS, KEPT_ENTRIES = 1 << 16, KEPT = 16, ROWS = 8 * SESSIONS, TEXT = 4096 };
+enum { WORKERS = 4, MONITOR = WORKERS, SESSIONS, KEPT_ENTRIES = 1 << 16, KEPT = 16, MEMBERS = KEPT * SESSIONS, ROWS = 8 * SESSIONS, TEXT = 4096 };
 
 static pelgaisti_session sessions[SESSIONS];
 static sem_t woken[SESSIONS];
@@ -39,7 +39,7 @@ static pelgaisti_reply ask(pelgaisti_session *session, uint32_t op, const pelgai
     pelgaisti_call call = {op, mode, {0, {0}}};
     pelgaisti_answer answer;
     if (on != NULL) call.resource = *on;
-    pelgaisti_status status = pelgaisti_session_perform(session, &call, UINT64_MAX, &answer);
+    pelgaisti_status status = pelgaisti_session_perform(session, &call, PELGAISTI_ALL_TURNS, &answer);
     must(status == PELGAISTI_OK, pelgaisti_op_name(op), pelgaisti_status_name(status));
     return answer.reply;
 }
@@ -58,16 +58,16 @@ static void end_look(pelgaisti_session *session, pelgaisti_book *view) {
    as the office keeps have come meanwhile. */
 static void tell_cycle(pelgaisti_session *session, uint64_t transaction, char *text, size_t room) {
     pelgaisti_deadlock list[KEPT];
-    pelgaisti_member members[KEPT * SESSIONS];
+    pelgaisti_member members[MEMBERS];
     size_t count, member_count, first = 0; /* `first`: where the members of a deadlock begin, the victim first */
     pelgaisti_book view = PELGAISTI_EMPTY;
     pelgaisti_status status;
     look(session, &view);
-    status = pelgaisti_book_deadlocks(&view, list, KEPT, &count, members, KEPT * SESSIONS, &member_count);
+    status = pelgaisti_book_deadlocks(&view, list, KEPT, &count, members, MEMBERS, &member_count);
     end_look(session, &view);
     must(status == PELGAISTI_OK, "deadlocks", pelgaisti_status_name(status));
     text[0] = 0;
-    for (size_t k = 0; k < count; first += list[k++].members)
+    for (size_t k = 0; k < count && k < KEPT && first + list[k].members <= MEMBERS; first += list[k++].members)
         if (members[first].request.transaction == transaction) pelgaisti_deadlock_text(&list[k], &members[first], text, room);
 }
 

@@ -70,7 +70,7 @@ static uint32_t ask(pelgaisti_session *session, uint32_t op, const pelgaisti_res
     pelgaisti_call call = {op, 0, {0, {0}}};
     pelgaisti_answer answer;
     if (on != NULL) call.resource = *on;
-    must(pelgaisti_session_perform(session, &call, UINT64_MAX, &answer) == PELGAISTI_OK, pelgaisti_op_name(op));
+    must(pelgaisti_session_perform(session, &call, PELGAISTI_ALL_TURNS, &answer) == PELGAISTI_OK, pelgaisti_op_name(op));
     return answer.reply.kind;
 }
 
@@ -78,7 +78,7 @@ static uint32_t ask(pelgaisti_session *session, uint32_t op, const pelgaisti_res
 static uint32_t lock(pelgaisti_session *session, const pelgaisti_resource *record) {
     const pelgaisti_program path = {PELGAISTI_NOTHING, 0, PELGAISTI_IX, {PELGAISTI_LOCK, PELGAISTI_X, *record}};
     pelgaisti_program_answer answer;
-    must(pelgaisti_session_run(session, &path, UINT64_MAX, &answer) == PELGAISTI_OK && !answer.starved, "lock");
+    must(pelgaisti_session_run(session, &path, PELGAISTI_ALL_TURNS, &answer) == PELGAISTI_OK && !answer.starved, "lock");
     return answer.stop ? answer.stop : PELGAISTI_GRANTED;
 }
 

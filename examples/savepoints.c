@@ -24,7 +24,7 @@ static uint32_t ask(pelgaisti_session *session, uint32_t op, const pelgaisti_res
     pelgaisti_call call = {op, mode, {0, {0}}};
     pelgaisti_answer answer;
     if (on != NULL) call.resource = *on;
-    must(pelgaisti_session_perform(session, &call, UINT64_MAX, &answer) == PELGAISTI_OK, pelgaisti_op_name(op));
+    must(pelgaisti_session_perform(session, &call, PELGAISTI_ALL_TURNS, &answer) == PELGAISTI_OK, pelgaisti_op_name(op));
     return answer.reply.kind;
 }
 

@@ -67,7 +67,7 @@ static uint32_t ask(const moving *it, uint32_t op, const pelgaisti_resource *on,
     pelgaisti_call call = {op, mode, {0, {0}}};
     pelgaisti_answer answer;
     if (on != NULL) call.resource = *on;
-    must(pelgaisti_session_perform(&sessions[it->number - 1], &call, UINT64_MAX, &answer) == PELGAISTI_OK, pelgaisti_op_name(op));
+    must(pelgaisti_session_perform(&sessions[it->number - 1], &call, PELGAISTI_ALL_TURNS, &answer) == PELGAISTI_OK, pelgaisti_op_name(op));
     return answer.reply.kind;
 }
 

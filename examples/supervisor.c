@@ -68,7 +68,7 @@ static int is_asked(const client *it) { return __atomic_load_n(&it->asked, __ATO
 static pelgaisti_reply ask(const client *it, uint32_t op) {
     const pelgaisti_call call = {op, 0, {0, {0}}};
     pelgaisti_answer answer;
-    pelgaisti_status status = pelgaisti_session_perform(&sessions[it->number - 1], &call, UINT64_MAX, &answer);
+    pelgaisti_status status = pelgaisti_session_perform(&sessions[it->number - 1], &call, PELGAISTI_ALL_TURNS, &answer);
     must(status == PELGAISTI_OK, pelgaisti_op_name(op), pelgaisti_status_name(status));
     return answer.reply;
 }
@@ -86,7 +86,7 @@ static int lock_account(const client *it, uint32_t account) {
     while (path.level < path.last.resource.level) {
         pelgaisti_program_answer answer;
         if (is_asked(it)) return 0;
-        pelgaisti_status status = pelgaisti_session_run(&sessions[it->number - 1], &path, UINT64_MAX, &answer);
+        pelgaisti_status status = pelgaisti_session_run(&sessions[it->number - 1], &path, PELGAISTI_ALL_TURNS, &answer);
         must(status == PELGAISTI_OK && !answer.starved, "lock", pelgaisti_status_name(status));
         pelgaisti_reply last = {answer.stop, answer.values[answer.served - 1]};
         while (last.kind == PELGAISTI_WAITING) {
@@ -127,13 +127,13 @@ static pelgaisti_status take_over(client *it, int *had_open) {
     pelgaisti_reply replies[PELGAISTI_CALLS];
     pelgaisti_answer answer;
     /* a call is heard like a program, as a program of one; pelgaisti_session_perform hears no program of several */
-    pelgaisti_status status = pelgaisti_session_run(&sessions[it->number - 1], NULL, UINT64_MAX, &made);
+    pelgaisti_status status = pelgaisti_session_run(&sessions[it->number - 1], NULL, PELGAISTI_ALL_TURNS, &made);
     if (status != PELGAISTI_OK && status != PELGAISTI_NOTHING_PENDING) return status;
     const uint32_t count = status == PELGAISTI_OK ? pelgaisti_program_replies(&it->ran, &made, replies) : 0;
     for (uint32_t k = 0; k < count; k++)
         if (replies[k].kind == PELGAISTI_COMMITTED) keep_writes(it); /* a transaction behind it has written nothing yet */
     undo(it);
-    status = pelgaisti_session_perform(&sessions[it->number - 1], &abort, UINT64_MAX, &answer);
+    status = pelgaisti_session_perform(&sessions[it->number - 1], &abort, PELGAISTI_ALL_TURNS, &answer);
     if (status != PELGAISTI_OK) return status;
     *had_open = answer.reply.kind == PELGAISTI_ABORTED; /* also if its request waited, or it was a victim; REFUSED: none was open */
     while (sem_trywait(&it->woken) == 0) continue;      /* wake-ups that its thread didn't take */

@@ -16,7 +16,7 @@ static long accounts[2] = {1000, 1000};
 static void make(int me, uint32_t op) {
     const pelgaisti_call call = {op, 0, {0, {0}}};
     pelgaisti_answer answer;
-    if (pelgaisti_session_perform(&sessions[me], &call, UINT64_MAX, &answer) != PELGAISTI_OK) exit(1);
+    if (pelgaisti_session_perform(&sessions[me], &call, PELGAISTI_ALL_TURNS, &answer) != PELGAISTI_OK) exit(1);
     if (answer.reply.kind == PELGAISTI_REFUSED) exit(1);
 }
 

@@ -40,6 +40,9 @@
  * - No call is made in a signal handler, nor in the forked child of a process with threads.
  * - malloc, realloc and free belong to one allocator. Where a process has two copies of the library, each handle is used by its own copy.
  *
+ * LISTS. `count` gets how many elements a call has to tell, and the array the first of them, as far as its `room` goes: the smaller of
+ * `room` and `count` were written, and no more are read. A call that tells page by page has no more to tell than `room`.
+ *
  * WHAT A THREAD SEES. What a thread wrote before the call by which it gives a lock back is seen by the thread that is answered the grant of
  * a conflicting lock behind it: memory that is written under X and read under S needs no atomics (docs/THREADS.md has the steps).
  * Programs that are built with -fsanitize=thread or -fsanitize=memory are told what the library orders, and writes to the caller's memory.
@@ -68,6 +71,8 @@ extern "C" {
 #define PELGAISTI_WHY_NUMBERS 13
 #define PELGAISTI_MAX_SESSIONS 1024
 #define PELGAISTI_MAX_LOCKS 4096
+#define PELGAISTI_ALL_TURNS UINT64_MAX /* no limit of turns */
+#define PELGAISTI_FOREVER UINT64_MAX   /* no time-out */
 
 typedef enum pelgaisti_status {
     PELGAISTI_OK = 0,
@@ -303,8 +308,9 @@ PELGAISTI_SIZE_(pass_counts, 24); PELGAISTI_SIZE_(options, 48); PELGAISTI_SIZE_(
 pelgaisti_options pelgaisti_default_options(uint32_t sessions);
 /* Opens a book. -> NULL, OPEN, NO_SUCH_COUNT, NO_MEMORY */
 pelgaisti_status pelgaisti_book_open(pelgaisti_book *book, const pelgaisti_options *options);
-/* Opens an office by its sessions: an array of options->sessions handles, of which sessions[0] is session 1. Behind it no pass lacks
-   memory for whom to wake. -> NULL (also the `wake` of a waker), NO_SUCH_COUNT, OPEN (one of the handles), NO_MEMORY */
+/* Opens an office by its sessions: an array of options->sessions handles, of which sessions[0] is session 1. None is looked at if that
+   number is out of its range. Behind it no pass lacks memory for whom to wake. -> NULL (also the `wake` of a waker), NO_SUCH_COUNT, OPEN
+   (one of the handles), NO_MEMORY */
 pelgaisti_status pelgaisti_office_open(pelgaisti_session *sessions, const pelgaisti_options *options);
 
 /* ---- Call: begin, lock, commit. ---- */
@@ -347,14 +353,14 @@ uint32_t pelgaisti_parent_mode(uint32_t mode);
 pelgaisti_call pelgaisti_path_call(const pelgaisti_resource *resource, uint32_t mode, uint32_t level);
 
 /* ---- Wait for locks: victims, time-outs. ---- */
-#define PELGAISTI_FOREVER UINT64_MAX
 /* Locks a resource in a mode, and its ancestors before it in the mode that this needs of them, and sleeps while a request waits. It asks
    for all levels; pelgaisti_session_run with `level`, and then pelgaisti_session_wait, doesn't ask for those that are held.
        OK          the session holds them.
        VICTIM      the transaction is a deadlock's victim. It keeps its locks: undo, then PELGAISTI_ABORT or PELGAISTI_RESTART.
        TIMED_OUT   the request of level `level` + 1 wasn't granted in time, and was taken back. The transaction goes on, or restarts.
        DENIED      that request was refused for `why`, such as NO_TRANSACTION.
-       NO_MEMORY   a call or a program may be pending: pelgaisti_session_wait goes on; behind its OK the same call may be made again.
+       NO_MEMORY   a call or a program may be pending: pelgaisti_session_wait goes on; behind its OK the same call may be made again, whose
+                   answer tells all levels. Before that pelgaisti_book_held, of a look, tells what the session holds.
    The answer is written with each of these five. `timeout_ms` runs from the first request that waits, by CLOCK_MONOTONIC, and bounds the
    wait for locks, not that for the lock table. 0: no request waits, each is a TRY. PELGAISTI_FOREVER: no end. No signal ends the sleep.
        const pelgaisti_resource row = {4, {1, 2, 3, 4}};
@@ -392,7 +398,7 @@ pelgaisti_status pelgaisti_session_mark(pelgaisti_session *session, uint64_t *ma
    it took release `locks` locks (from 1 on); a pass has at most `rounds` rounds (1 to 65,535). -> NULL, CLOSED, NO_SUCH_COUNT */
 pelgaisti_status pelgaisti_session_bound_passes(pelgaisti_session *session, uint32_t calls, uint32_t locks, uint32_t rounds);
 
-/* ---- Look. What a view can't do returns LOOKS. A list gets the first `room` of its elements, and `count` the number of all. ---- */
+/* ---- Look. What a view can't do returns LOOKS. ---- */
 /* Waits for the lock table, for which other calls stand back, takes it, and opens `view`: a book on which every question may be asked, with
    answers of one moment. A call may be pending. Until pelgaisti_look_end `session` is closed, and other calls
    for the table wait, also those with a time-out: one that this thread makes by another session, or another look, for ever.
@@ -402,8 +408,8 @@ pelgaisti_status pelgaisti_session_bound_passes(pelgaisti_session *session, uint
        pelgaisti_look_end(session, &view);
    -> NULL, OPEN (the view), CLOSED (the session) */
 pelgaisti_status pelgaisti_session_look(pelgaisti_session *session, pelgaisti_book *view);
-/* Gives the lock table back, closes `view`, and opens `session`, the handle that looked; it knows the history up to the look. -> NULL,
-   OPEN (the session), CLOSED (the view), NOT_A_LOOK */
+/* Gives the lock table back, closes `view`, and opens `session`, the handle that looked; it knows the history up to the look. No other
+   closed handle is given: it would be opened in place of that one. -> NULL, OPEN (the session), CLOSED (the view), NOT_A_LOOK */
 pelgaisti_status pelgaisti_look_end(pelgaisti_session *session, pelgaisti_book *view);
 /* Writes the mode that the session holds on the resource, PELGAISTI_NL for none. -> NULL, CLOSED, NO_SUCH_SESSION, NO_SUCH_LEVEL */
 pelgaisti_status pelgaisti_book_held(pelgaisti_book *book, uint32_t session, const pelgaisti_resource *resource, uint32_t *mode);
@@ -430,10 +436,13 @@ pelgaisti_status pelgaisti_book_locks_of(pelgaisti_book *book, uint32_t session,
    -> NULL, CLOSED, NO_MEMORY */
 pelgaisti_status pelgaisti_book_dump(pelgaisti_book *book, pelgaisti_claim *rows, size_t room, size_t *count, uint64_t *place);
 
-/* Writes the next line of a whole dump as text, as snprintf does; 100 bytes are enough. Returns its length, 0 behind the last one. The
-   lines are those of `glm show --csv`, which `glm show --state` reads. `at` is PELGAISTI_DUMPING at first. Needs no handle.
+/* Writes the next line of a dump, of which so many rows were written, as text, as snprintf does; 100 bytes are enough. Returns its
+   length, 0 behind the last one. The lines of a whole dump are those of `glm show --csv`, which `glm show --state` reads. `at` is
+   PELGAISTI_DUMPING at first. Needs no handle.
+       pelgaisti_book_dump(&view, rows, room, &count, &place);
+       if (count > room) count = room;
        while (pelgaisti_dump_line(rows, count, &at, line, sizeof line)) fputs(line, file); */
-uint32_t pelgaisti_dump_line(const pelgaisti_claim *rows, size_t count, pelgaisti_dumping *at, char *text, size_t room);
+uint32_t pelgaisti_dump_line(const pelgaisti_claim *rows, size_t written, pelgaisti_dumping *at, char *text, size_t room);
 /* Write counters, gauges, and what an office's passes have served: 0 of a book that is no view. -> NULL, CLOSED */
 pelgaisti_status pelgaisti_book_counts(pelgaisti_book *book, pelgaisti_counts *counts);
 pelgaisti_status pelgaisti_book_gauges(pelgaisti_book *book, pelgaisti_gauges *gauges);
@@ -445,7 +454,7 @@ pelgaisti_status pelgaisti_book_passes(pelgaisti_book *book, pelgaisti_pass_coun
 pelgaisti_status pelgaisti_book_deadlocks(pelgaisti_book *book, pelgaisti_deadlock *list, size_t room, size_t *count,
                                           pelgaisti_member *members, size_t member_room, size_t *member_count);
 
-/* Writes a deadlock as lines of text, as snprintf does, and returns the length of the whole text:
+/* Writes a deadlock, all of whose members were written, as lines of text, as snprintf does, and returns the length of the whole text:
        deadlock at place 5: session 2 closed a cycle, session 2 is its victim
          session 2, transaction 2, waits for 1 in S, which session 1 holds in X
          session 1, transaction 1, waits for 2 in X, which session 2 holds in S */
@@ -458,7 +467,8 @@ pelgaisti_status pelgaisti_book_length(pelgaisti_book *book, uint64_t *first_kep
 pelgaisti_status pelgaisti_book_history(pelgaisti_book *book, uint64_t first, pelgaisti_entry *entries, size_t room, size_t *count);
 
 /* Take the oldest entries that are kept, up to `room`, out of the library's memory: the first has the place `first`. Of a session: waits
-   for the lock table as a look does, but no longer than some 5 milliseconds; a call may be pending. -> NULL, CLOSED, LOOKS; of a session NULL, CLOSED, ELSEWHERE, NO_MEMORY */
+   for the lock table as a look does, but no longer than some 5 milliseconds; a call may be pending. -> NULL, CLOSED, LOOKS; of a session
+   NULL, CLOSED, NO_MEMORY (for `room` entries), ELSEWHERE */
 pelgaisti_status pelgaisti_book_take_history(pelgaisti_book *book, uint64_t *first, pelgaisti_entry *entries, size_t room, size_t *count);
 pelgaisti_status pelgaisti_session_take_history(pelgaisti_session *session, uint64_t *first, pelgaisti_entry *entries, size_t room,
                                                 size_t *count);

@@ -10,13 +10,26 @@ uint32_t pelgaisti_version(void) { return pelgaisti_raw_version(); }
 
 uint32_t pelgaisti_parent_mode(uint32_t mode) { return pelgaisti_raw_parent_mode(mode); }
 
-pelgaisti_call pelgaisti_path_call(const pelgaisti_resource *resource, uint32_t mode, uint32_t level) {
-    pelgaisti_call call = {PELGAISTI_LOCK, mode, *resource};
-    pelgaisti_raw_path_call(resource, mode, level, &call);
+/* Two functions return structs by value. As x86-64 passes one of more than 16 bytes, its address is a first argument, which is returned: so
+   they are defined here, since MemorySanitizer has to be told what is written there. */
+pelgaisti_call *path_call_at(pelgaisti_call *call, const pelgaisti_resource *resource, uint32_t mode, uint32_t level)
+    __asm__("pelgaisti_path_call");
+pelgaisti_options *default_options_at(pelgaisti_options *options, uint32_t sessions) __asm__("pelgaisti_default_options");
+
+pelgaisti_call *path_call_at(pelgaisti_call *call, const pelgaisti_resource *resource, uint32_t mode, uint32_t level) {
+    const pelgaisti_call none = {PELGAISTI_LOCK, mode, *resource};
+    *call = none;
+    pelgaisti_raw_path_call(resource, mode, level, call);
+    if (IS_MARKED) note_written(call, sizeof *call);
     return call;
 }
 
-pelgaisti_options pelgaisti_default_options(uint32_t sessions) { return (pelgaisti_options)PELGAISTI_OPTIONS(sessions); }
+pelgaisti_options *default_options_at(pelgaisti_options *options, uint32_t sessions) {
+    const pelgaisti_options made = PELGAISTI_OPTIONS(sessions);
+    *options = made;
+    if (IS_MARKED) note_written(options, sizeof *options);
+    return options;
+}
 
 /* ---- Books. ---- */
 
@@ -127,8 +140,11 @@ pelgaisti_status pelgaisti_book_shrink(pelgaisti_book *book) {
     return CALL(book, pelgaisti_raw_book_shrink(&book));
 }
 
+/* A program that makes no call, which the export would run, is refused as one whose last op is none. */
 pelgaisti_status pelgaisti_book_run(pelgaisti_book *book, uint32_t session, const pelgaisti_program *program,
                                     pelgaisti_program_answer *answer) {
+    static const pelgaisti_program none = {PELGAISTI_NOTHING, 0, 0, {PELGAISTI_OP_NUMBERS, 0, {0, {0}}}};
+    if (program && program->start == PELGAISTI_NOTHING && program->last.op == 0) program = &none;
     return WRITING(answer, CALL(book, pelgaisti_raw_book_run(&book, session, &program, &answer)));
 }
 
@@ -137,21 +153,23 @@ pelgaisti_status pelgaisti_book_run(pelgaisti_book *book, uint32_t session, cons
 /* That of an office which the engine has given none: the library wakes who sleeps in it. */
 static const pelgaisti_waker no_waker = {NULL, NULL};
 
-/* The office has a mark of its own. */
+/* The office has a mark of its own. A handle is looked at only if there is one: if the number of sessions is in its range. */
 pelgaisti_status pelgaisti_office_open(pelgaisti_session *sessions, const pelgaisti_options *options) {
+    const size_t count = sessions && options && options->sessions <= PELGAISTI_MAX_SESSIONS ? options->sessions : 0;
     pelgaisti_options own;
     pelgaisti_status status;
-    size_t count, k;
-    if (!options || (options->waker && !options->waker->wake)) return is_astray(sessions) ? PELGAISTI_COPIED : PELGAISTI_NULL;
+    uint64_t mark;
+    size_t k;
+    for (k = 0; k < count; k++)
+        if (use_too(&sessions[k])) return PELGAISTI_COPIED;
+    if (!options || (options->waker && !options->waker->wake)) return PELGAISTI_NULL;
     own = *options;
     own.seed = seed_of(options);
     if (!own.waker) own.waker = &no_waker;
-    count = own.sessions;
-    for (k = 1; sessions && k < count && count <= PELGAISTI_MAX_SESSIONS; k++)
-        if (use_too(&sessions[k])) return PELGAISTI_COPIED;
-    status = CALL(sessions, pelgaisti_raw_office_open(LIST(sessions, count), draw_mark(count), &own));
-    note_opening();
-    for (k = 1; k < count && status == PELGAISTI_OK; k++) noting(&sessions[k], status);
+    mark = draw_mark(own.sessions);
+    status = ORDERED(NULL, ORDERS_NOTHING, pelgaisti_raw_office_open(LIST(sessions, own.sessions), mark, &own));
+    for (k = 0; k < count; k++) noting(&sessions[k], status);
+    if (status == PELGAISTI_OK) note_opening(mark);
     return status;
 }
 
@@ -236,6 +254,12 @@ pelgaisti_status pelgaisti_session_hand_in(pelgaisti_session *session, pelgaisti
 }
 
 pelgaisti_status pelgaisti_office_close(pelgaisti_session *session, pelgaisti_book *book) {
+    uint64_t mark = 0;
+    pelgaisti_status status;
+    uint32_t number;
     if (use_too(book)) return PELGAISTI_COPIED;
-    return noting(book, CALL(session, pelgaisti_raw_office_close(&session, &book)));
+    place_of(session, &mark, &number);
+    status = noting(book, CALL(session, pelgaisti_raw_office_close(&session, &book)));
+    if (status == PELGAISTI_OK) note_closing(mark);
+    return status;
 }

@@ -71,14 +71,14 @@ static void put_row(struct text *out, const pelgaisti_claim *row) {
     put_words(out, ",\n");
 }
 
-uint32_t pelgaisti_dump_line(const pelgaisti_claim *rows, size_t count, pelgaisti_dumping *at, char *text, size_t room) {
+uint32_t pelgaisti_dump_line(const pelgaisti_claim *rows, size_t written, pelgaisti_dumping *at, char *text, size_t room) {
     struct text out = {text, room, 0};
-    if (at->row_ < count) {
+    if (at->row_ < written) {
         put_row(&out, &rows[at->row_++]);
         return (uint32_t)end_text(&out);
     }
     uint32_t others;
-    const uint32_t first = next_wait(rows, count, at, &others);
+    const uint32_t first = next_wait(rows, written, at, &others);
     if (first == 0) return 0;
     put_words_and_number(&out, "waits,", rows[at->wait_ - 1].session);
     put_words_and_number(&out, ",,,,,", first);

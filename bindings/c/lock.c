@@ -13,11 +13,14 @@ struct wait {
     struct timespec until;
 };
 
-static pelgaisti_status prepare(struct wait *it, pelgaisti_session *session, uint64_t timeout_ms) {
+/* A handle that isn't where it was opened is told before another argument that is NULL. */
+static pelgaisti_status prepare(struct wait *it, pelgaisti_session *session, uint64_t timeout_ms, int has_all) {
+    pelgaisti_status status;
     it->session = session;
     it->timeout_ms = timeout_ms;
     it->has_begun = 0;
-    return place_of(session, &it->mark, &it->number);
+    status = place_of(session, &it->mark, &it->number);
+    return has_all || status == PELGAISTI_COPIED ? status : PELGAISTI_NULL;
 }
 
 /* Makes a call, and first notes the wake-ups so far: one that is made behind that keeps the thread from falling asleep if the reply tells of
@@ -122,8 +125,7 @@ pelgaisti_status pelgaisti_session_lock(pelgaisti_session *session, const pelgai
     pelgaisti_answer last = {0, {0, 0}};
     pelgaisti_status status;
     uint32_t level = 0;
-    if (!session || !resource || !answer) return PELGAISTI_NULL;
-    status = prepare(&it, session, timeout_ms);
+    status = prepare(&it, session, timeout_ms, resource && answer);
     if (status != PELGAISTI_OK) return status;
     do {
         status = end_wait(&it, lock_on(&it, resource, mode, &level, &last), &last);
@@ -138,8 +140,7 @@ pelgaisti_status pelgaisti_session_wait(pelgaisti_session *session, uint64_t tim
     pelgaisti_answer last = {0, {0, 0}};
     pelgaisti_status status;
     uint32_t level = 0;
-    if (!session || !answer) return PELGAISTI_NULL;
-    status = prepare(&it, session, timeout_ms);
+    status = prepare(&it, session, timeout_ms, answer != NULL);
     if (status != PELGAISTI_OK) return status;
     status = run(&it, NULL, &level, &last);
     /* the wait of which a pending call tells may be over since long, and its wake-up was made: so it is polled, too */

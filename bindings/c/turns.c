@@ -12,8 +12,8 @@
 #include "wait.h"
 #include <errno.h>
 #include <linux/futex.h>
-#include <pthread.h>
 #include <sched.h>
+#include <stddef.h>
 #include <sys/syscall.h>
 #include <unistd.h>
 
@@ -47,6 +47,9 @@ enum {
     /* One call of so many is measured, with the time to the next one: a number that no pattern of calls has. A thread that slept, or had no
        processor, counts for MOST_SAMPLE at most. What was measured counts half after MEASURED; before LEAST_MEASURED all begin. */
     CALLS_PER_SAMPLE = 13, MOST_SAMPLE = 200 * US, MEASURED = 2000 * US, LEAST_MEASURED = MEASURED / 32,
+
+    /* Threads of so many open offices at a time wait asleep. Those of further ones wait awake, and begin without a slice. */
+    MOST_OFFICES = 256,
 
     /* Calls stand back no longer than that for who wants the table itself: it may have no processor. It tries so often; after some tries it
        sleeps so long between some more. */
@@ -84,19 +87,19 @@ struct queue {
     struct waiter *first, **last;
 };
 
-/* What the threads of an office wait by; offices whose marks are alike share it. Under the lock: the queue of those that wait for a slice, and
+/* What the threads of the office with this mark wait by; 0: of none. Under the lock: the queue of those that wait for a slice, and
    the last of them; the queue of those that wait for the table; the slices that were given. Written under the lock, and read without it: how many
    wait for a slice; how many wait for the table awake; how many are to come in before the next look. Without the lock: how many want the
    table itself; how many slices there may be; ticks of threads in calls, and in all, which may be wrong by a few. */
 static struct admission {
-    _Alignas(64) uint32_t lock, waiting, awake, is_on_the_way, before_look;
+    _Alignas(64) uint64_t mark, given;
+    uint32_t lock, waiting, awake, is_on_the_way, before_look;
     struct queue for_slice, for_table;
     struct waiter *watcher;
-    uint64_t given;
     _Alignas(64) uint32_t wants, slices;
     uint64_t in_calls, in_all;
     struct slice slice[MOST_SLICES + 1]; /* the last one is everybody's: it has no time, and nobody has it */
-} admissions[64];
+} admissions[MOST_OFFICES];
 
 /* How many threads of the process wait asleep for the table, how many want a table itself, how many of an office may wait awake, and how many
    offices were opened: what a thread knows of a handle is of one opening. */
@@ -184,22 +187,36 @@ static void wait_until_called(struct waiter *self) {
     while (!is_called(self)) sleep_until_called(self, UINT64_MAX);
 }
 
-/* Nobody waits: when the library is loaded, and in a child process, which has one thread. */
-static void forget_all(void) {
-    uint32_t k;
-    memset(admissions, 0, sizeof admissions);
-    for (k = 0; k < sizeof admissions / sizeof *admissions; k++) admissions[k].slices = ALL_BEGIN;
-    sleepers = wanted = 0;
-    mine.session = NULL;
-    mine.admission = NULL;
+/* Nobody waits, and nothing was measured. The mark stays, and the numbers of slices go on. */
+static void forget(struct admission *a) {
+    const size_t kept = offsetof(struct admission, lock);
+    memset((char *)a + kept, 0, sizeof *a - kept);
+    a->slices = ALL_BEGIN;
 }
 
-__attribute__((constructor(101))) static void prepare(void) {
+/* The admission of the office with this mark; NULL if it has none. With 0 one that is nobody's. */
+static struct admission *admission_by(uint64_t mark, uint64_t office) {
+    uint32_t k, at = (uint32_t)(office * 0x9E3779B97F4A7C15u >> 56);
+    for (k = 0; k < MOST_OFFICES; k++, at = (at + 1) % MOST_OFFICES)
+        if (READ(admissions[at].mark) == mark) return &admissions[at];
+    return NULL;
+}
+
+void note_opening(uint64_t mark) {
     cpu_set_t processors;
     const int count = sched_getaffinity(0, sizeof processors, &processors) == 0 ? CPU_COUNT(&processors) : MOST_AWAKE;
-    most_awake = count < LEAST_AWAKE ? LEAST_AWAKE : count < MOST_AWAKE ? (uint32_t)count : MOST_AWAKE;
-    forget_all();
-    pthread_atfork(NULL, NULL, forget_all);
+    struct admission *a;
+    uint64_t nobody;
+    WRITE(most_awake, count < LEAST_AWAKE ? LEAST_AWAKE : count < MOST_AWAKE ? (uint32_t)count : MOST_AWAKE);
+    do a = admission_by(nobody = 0, mark);
+    while (a && !__atomic_compare_exchange_n(&a->mark, &nobody, mark, 0, __ATOMIC_SEQ_CST, __ATOMIC_SEQ_CST));
+    if (a) forget(a);
+    __atomic_add_fetch(&openings, 1, __ATOMIC_SEQ_CST);
+}
+
+void note_closing(uint64_t mark) {
+    struct admission *a = admission_by(mark, mark);
+    if (a) WRITE(a->mark, 0);
 }
 
 /* ---- Slices. ---- */
@@ -347,15 +364,13 @@ static int is_mine(const pelgaisti_session *session) {
     return mine.session == session && mine.at == session->at_ && mine.openings == READ(openings);
 }
 
-void note_opening(void) { __atomic_add_fetch(&openings, 1, __ATOMIC_RELAXED); }
-
-/* What the session's office waits by; NULL if the handle isn't open. */
+/* What threads of the session's office wait by; NULL if the handle isn't open, or the office has no admission. */
 static struct admission *admission_of(pelgaisti_session *session) {
     uint64_t mark;
     uint32_t number;
     if (is_mine(session)) return mine.admission;
     if (session->is_open_ != 1 || place_of(session, &mark, &number) != PELGAISTI_OK) return NULL;
-    return &admissions[mark * 0x9E3779B97F4A7C15u >> 58];
+    return admission_by(mark, mark);
 }
 
 /* Makes this session the one that the thread knows. A thread has one slice: that of another office is given up. */
@@ -735,13 +750,13 @@ static COLD pelgaisti_status want(struct whole_call *it, turn_maker *make, uint6
     const uint64_t begun = NOW();
     pelgaisti_status status;
     uint64_t made = 1;
-    __atomic_add_fetch(&a->wants, 1, __ATOMIC_SEQ_CST);
+    if (a) __atomic_add_fetch(&a->wants, 1, __ATOMIC_SEQ_CST);
     __atomic_add_fetch(&wanted, 1, __ATOMIC_SEQ_CST);
     while ((status = make(it, TRIES)) == PELGAISTI_NOT_SERVED && NOW() - begun < most)
         if (++made > TRIES_AWAKE && made % TRIES_PER_SLEEP == 0) sleep_until_called(&nobody, SLEEP_OF_WANT);
         else pause_for(PAUSE_OF_WANT);
     __atomic_sub_fetch(&wanted, 1, __ATOMIC_SEQ_CST);
-    __atomic_sub_fetch(&a->wants, 1, __ATOMIC_SEQ_CST);
+    if (a) __atomic_sub_fetch(&a->wants, 1, __ATOMIC_SEQ_CST);
     return status;
 }
 

@@ -14,8 +14,9 @@ void wake_each(const pelgaisti_waker *waker, uint64_t mark, const uint32_t *list
 /* Writes the mark of the session's office, and the session's number. NULL, CLOSED, COPIED: nothing is written. */
 pelgaisti_status place_of(pelgaisti_session *session, uint64_t *mark, uint32_t *number);
 uint64_t mark_of(pelgaisti_session *session);
-/* An office was opened. */
-void note_opening(void);
+/* The office with this mark was opened; was closed. */
+void note_opening(uint64_t mark);
+void note_closing(uint64_t mark);
 /* Wakes the sessions that the session's last pass has told of. */
 void wake_told(pelgaisti_session *session);
 

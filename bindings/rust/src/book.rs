@@ -95,6 +95,7 @@ impl Book {
     /// reply at which it stops. An engine that guards the book by a mutex acquires it once for the whole program.
     ///
     /// [`Error::NoMemory`]: nothing has changed. If memory is refused to a later call than the first, the answer says so.
+    /// [`Error::NoCalls`]: the program makes no call.
     ///
     ///     # use pelgaisti::{Book, Mode, Program, Reply, Resource, Start};
     ///     let mut book = Book::open(1)?;

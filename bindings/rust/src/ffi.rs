@@ -422,7 +422,7 @@ extern "C" {
     ) -> u32;
     pub(crate) fn pelgaisti_dump_line(
         rows: *const RawClaim,
-        count: usize,
+        written: usize,
         at: *mut RawDumping,
         text: *mut c_char,
         room: usize,

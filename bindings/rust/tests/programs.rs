@@ -17,8 +17,8 @@ fn run(book: &mut Book, session: u32, program: Program) -> (Vec<Reply>, ProgramA
 #[test]
 fn each_start_is_made() {
     let mut book = Book::open(1).unwrap();
+    assert_eq!(book.run(1, &Program::start(Start::Nothing)).err(), Some(Error::NoCalls));
     let mut replies = |first| run(&mut book, 1, Program::start(first)).0;
-    assert_eq!(replies(Start::Nothing), []);
     assert_eq!(replies(Start::Begins), [Reply::Began(1)]);
     assert_eq!(replies(Start::Commits), [Reply::Committed(0)]);
     assert_eq!(replies(Start::CommitsAndBegins), [Reply::Refused(Refusal::NoTransaction)]);
