@@ -122,8 +122,8 @@ DEAREST = [
 # instructions are counted, how often it is called, how many calls it makes each time, the most instructions of one.
 THROUGH_C = [
     ("locks are granted by a pass of an office", "locks", "pass_of_locks", 200, 32, 1250),
-    ("a call is performed at once", "performs", "perform_transaction", 2000, 3, 870),
-    ("a call is performed at once in an office with a waker", "wakes", "perform_transaction", 2000, 3, 870),
+    ("a call is performed at once", "performs", "perform_transaction", 2000, 3, 770),
+    ("a call is performed at once in an office with a waker", "wakes", "perform_transaction", 2000, 3, 770),
 ]
 
 # Dear calls through the library for C: what it is, what checks/dear_calls.c does, how many calls or items it counts as, the most
@@ -141,8 +141,8 @@ DEAR_THROUGH_C = [
 
 # A transfer of seven calls: by single calls and by two programs of an office, each with how a book is called for the same, and a bound.
 # What an office takes beyond the book is its hand-over: that of programs is bounded by so much of that of calls.
-TRANSFERS = ("calls", "served", 7800), ("programs", "ran", 6300)
-MOST_OF_CALLS = 0.3
+TRANSFERS = ("calls", "served", 7050), ("programs", "ran", 6300)
+MOST_OF_CALLS = 0.38
 
 
 def counted(words, *flags, given=subprocess.DEVNULL):

@@ -707,6 +707,10 @@ static pelgaisti_program_answer run_in_both(uint32_t session, const pelgaisti_pr
     size_t count = 99, all = calls_of(program, calls), k, n, marked = 0;
     int has_ended[EIGHT + 1] = {0};
     pelgaisti_status status = pelgaisti_book_run(&book, session, program, &answer);
+    if (all == 0) {
+        want(status == PELGAISTI_NO_SUCH_OP && answer.served == 77 && length_of(&book) == before, "program of no calls at", before);
+        return (pelgaisti_program_answer){before, 0, 0, 0, {0}};
+    }
     if (status == PELGAISTI_NO_MEMORY) {
         want(answer.served == 77 && length_of(&book) == before, "history after a refusal", before);
         status = pelgaisti_book_run(&book, session, program, &answer);
