@@ -309,7 +309,7 @@ pelgaisti_options pelgaisti_default_options(uint32_t sessions);
 /* Opens a book. -> NULL, OPEN, NO_SUCH_COUNT, NO_MEMORY */
 pelgaisti_status pelgaisti_book_open(pelgaisti_book *book, const pelgaisti_options *options);
 /* Opens an office by its sessions: an array of options->sessions handles, of which sessions[0] is session 1. None is looked at if that
-   number is out of its range. Behind it no pass lacks memory for whom to wake. -> NULL (also the `wake` of a waker), NO_SUCH_COUNT, OPEN
+   number is out of its range. After it no pass lacks memory for whom to wake. -> NULL (also the `wake` of a waker), NO_SUCH_COUNT, OPEN
    (one of the handles), NO_MEMORY */
 pelgaisti_status pelgaisti_office_open(pelgaisti_session *sessions, const pelgaisti_options *options);
 
@@ -359,7 +359,7 @@ pelgaisti_call pelgaisti_path_call(const pelgaisti_resource *resource, uint32_t 
        VICTIM      the transaction is a deadlock's victim. It keeps its locks: undo, then PELGAISTI_ABORT or PELGAISTI_RESTART.
        TIMED_OUT   the request of level `level` + 1 wasn't granted in time, and was taken back. The transaction goes on, or restarts.
        DENIED      that request was refused for `why`, such as NO_TRANSACTION.
-       NO_MEMORY   a call or a program may be pending: pelgaisti_session_wait goes on; behind its OK the same call may be made again, whose
+       NO_MEMORY   a call or a program may be pending: pelgaisti_session_wait goes on; after its OK the same call may be made again, whose
                    answer tells all levels. Before that pelgaisti_book_held, of a look, tells what the session holds.
    The answer is written with each of these five. `timeout_ms` runs from the first request that waits, by CLOCK_MONOTONIC, and bounds the
    wait for locks, not that for the lock table. 0: no request waits, each is a TRY. PELGAISTI_FOREVER: no end. No signal ends the sleep.
@@ -437,7 +437,7 @@ pelgaisti_status pelgaisti_book_locks_of(pelgaisti_book *book, uint32_t session,
 pelgaisti_status pelgaisti_book_dump(pelgaisti_book *book, pelgaisti_claim *rows, size_t room, size_t *count, uint64_t *place);
 
 /* Writes the next line of a dump, of which so many rows were written, as text, as snprintf does; 100 bytes are enough. Returns its
-   length, 0 behind the last one. The lines of a whole dump are those of `glm show --csv`, which `glm show --state` reads. `at` is
+   length, 0 after the last one. The lines of a whole dump are those of `glm show --csv`, which `glm show --state` reads. `at` is
    PELGAISTI_DUMPING at first. Needs no handle.
        pelgaisti_book_dump(&view, rows, room, &count, &place);
        if (count > room) count = room;

@@ -75,8 +75,8 @@ struct slice {
     uint32_t is_passed, is_quiet;
 };
 
-/* A thread that waits: the slice that it was given; whether its call is published; whether it was called up, and on which processor. It lies on its thread's stack, so
-   whoever is being called up waits until it has been. */
+/* A thread that waits: the slice that it was given; whether its call is published; whether it was called up, and on which processor. It lies
+   on its thread's stack, so a thread that is given a slice stays until it was called up. */
 struct waiter {
     struct waiter *next;
     struct slice *slice;
@@ -536,7 +536,7 @@ static void wake_outside(struct whole_call *it, struct admission *a) {
     if (a) come_in(a);
 }
 
-/* Makes turns until the call is answered or none is left; behind `made` of them, the last of which had this status. If no turn is left, the
+/* Makes turns until the call is answered or none is left, after `made` of them, the last of which had this status. If no turn is left, the
    call is published. Without an admission the thread doesn't sleep. */
 static pelgaisti_status make_turns(struct whole_call *it, struct admission *a, pelgaisti_status status, uint64_t made, turn_maker *make) {
     if (status == PELGAISTI_NOT_SERVED && !it->is_published) status = make(it, LOOKS_ONLY);
@@ -652,7 +652,6 @@ static COLD void give_up_slice(const pelgaisti_session *session) {
 /* The archive's turn, by a copy of the handle. */
 #define TURN(it, how, copy, order, call) \
     ((how) == TRIES ? after_hold((it)->session, CALL_BY_COPY((it)->session, copy, order, call)) : CALL_BY_COPY((it)->session, copy, order, call))
-
 
 #define MAKES static inline __attribute__((always_inline)) pelgaisti_status
 
